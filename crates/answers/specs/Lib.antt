@@ -1,0 +1,3 @@
+pub mod Refusals
+pub mod Answers
+pub mod Buffers

@@ -1,0 +1,5 @@
+pub mod Table
+pub mod Digits
+pub mod Parse
+pub mod Pairs
+pub mod Numbers

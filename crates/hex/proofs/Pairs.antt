@@ -1,0 +1,31 @@
+-- Two digits at a place of a file: when they are digits, and the number they give.
+-- By unfolding `all-digits` and `number` twice.
+use mathlib.Core.Bool.{true, _&&_, and-true}
+use mathlib.Core.List.{List}
+use mathlib.Core.Path.{_≡_, refl}
+use Prim.Native.Nat.{ℕ, _+_, _*_, _<_}
+use native.Mathlib.Numerals.{add-one}
+use native.Mathlib.Omega.{arith}
+use lib.ListN.{getD}
+use Rattle.hex.proofs.Digits.{value-below}
+use Rattle.hex.proofs.Table.{and-left, and-right}
+use Rattle.hex.specs.Hex.{is-digit, digit-value, all-digits, number}
+
+pub both-digits : (a : ℕ) (bs : List ℕ) → all-digits 2 a bs ≡ is-digit (getD bs a 0) && is-digit (getD bs (a + 1) 0)
+unfolding all-digits
+both-digits a bs = simp (add-one, and-true)
+
+pub pair-number : (a : ℕ) (bs : List ℕ) → number 2 a bs ≡ digit-value (getD bs a 0) * 16 + digit-value (getD bs (a + 1) 0)
+unfolding number
+pair-number a bs = rw add-one (omega arith)
+
+module _ (a : ℕ) (bs : List ℕ) (good : all-digits 2 a bs ≡ true) where
+  pub high-digit : is-digit (getD bs a 0) ≡ true
+  high-digit = and-left (is-digit (getD bs a 0)) (is-digit (getD bs (a + 1) 0)) (rw both-digits at good)
+
+  pub low-digit : is-digit (getD bs (a + 1) 0) ≡ true
+  low-digit = and-right (is-digit (getD bs a 0)) (is-digit (getD bs (a + 1) 0)) (rw both-digits at good)
+
+  pub pair-below : number 2 a bs < 256
+  pair-below =
+      omega (arith, pair-number a bs, value-below (getD bs a 0) high-digit, value-below (getD bs (a + 1) 0) low-digit)
