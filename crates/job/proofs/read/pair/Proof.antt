@@ -1,0 +1,64 @@
+-- `job::read::pair` meets its contract: each digit is a value or refused, and the two together are the pair.
+-- Assumes nothing.
+use mathlib.Core.Bool.{and-false}
+use native.Mathlib.Omega.{arith}
+use Rattle.hex.proofs.Parse.{refused, taken, refused-bad, value-good, value-is, digit-below}
+use borrow.Author.Needs.{needs}
+use Rattle.job.proofs.read.pair.Statement.{statement}
+use Rattle.job.proofs.read.pair.Tie as tie
+
+digit-value-requires : tie.Need-digit-value-requires
+digit-value-requires c κs = search needs
+
+enum-known-sixteens : tie.Need-enum-known-sixteens
+enum-known-sixteens c = search needs
+
+enum-told : tie.Need-enum-told
+enum-told c = search needs
+
+returns : tie.Need-returns
+returns c = refused _ _ (rw (refused-bad _ _ _ (c .before .before .digit-value .ensures) (c .enum-told .given .1)))
+
+digit-value-requires-2 : tie.Need-digit-value-requires-2
+digit-value-requires-2 c κs = search needs
+
+enum-known-ones : tie.Need-enum-known-ones
+enum-known-ones c = search needs
+
+enum-told-2 : tie.Need-enum-told-2
+enum-told-2 c = search needs
+
+returns-2 : tie.Need-returns-2
+returns-2 c = refused _ _ (rw (refused-bad _ _ _ (c .before .before .digit-value2 .ensures) (c .enum-told2 .given .1), and-false))
+
+mul-t7 : tie.Need-mul-t7
+mul-t7 c = omega (arith, digit-below _ _ (c .before .before .before .before .before .before .before .digit-value .ensures) _ (c .before .before .before .before .before .sixteens .given .1))
+
+add-t8 : tie.Need-add-t8
+add-t8 c = omega (arith, digit-below _ _ (c .before .before .before .before .before .before .before .digit-value .ensures) _ (c .before .before .before .before .before .sixteens .given .1), digit-below _ _ (c .before .before .before .digit-value2 .ensures) _ (c .before .ones .given .1))
+
+returns-3 : tie.Need-returns-3
+returns-3 c =
+    let high-read = c .before .before .before .before .before .before .before .digit-value .ensures in
+    let high-is = c .before .before .before .before .before .sixteens .given .1 in
+    let low-read = c .before .before .before .digit-value2 .ensures in
+    let low-is = c .before .ones .given .1 in
+    taken _ _ _
+    (rw (value-good _ _ _ high-read _ high-is, value-good _ _ _ low-read _ low-is))
+    (rw (value-is _ _ _ high-read _ high-is, value-is _ _ _ low-read _ low-is))
+
+pub pair-spec : {M : Type 1} → statement M
+pair-spec =
+    tie.close
+    (tie.spec
+    digit-value-requires
+    enum-known-sixteens
+    enum-told
+    returns
+    digit-value-requires-2
+    enum-known-ones
+    enum-told-2
+    returns-2
+    mul-t7
+    add-t8
+    returns-3)

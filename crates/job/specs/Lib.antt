@@ -1,0 +1,4 @@
+pub mod Job
+pub mod Read
+pub mod Write
+pub mod Promises
