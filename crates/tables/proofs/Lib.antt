@@ -1,0 +1,13 @@
+pub mod Cases
+pub mod Least
+pub mod HMin
+pub mod KMin
+pub mod RMin
+pub mod Periods
+pub mod FirstShift
+pub mod Refuted
+pub mod Times
+pub mod Runs
+pub mod Order
+pub mod Groups
+pub mod Stored

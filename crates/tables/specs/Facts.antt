@@ -1,0 +1,65 @@
+-- What each table of a pattern holds, as propositions: every entry is the least number that its sets allow. Each record's proof is in
+-- proofs/ or owed (docs/PROMISES.md); after it, no proof unfolds the table's definition. These are definitions.
+use mathlib.Core.List.{List}
+use mathlib.Core.Logic.{_≢_, _⊎_}
+use mathlib.Core.Path.{_≡_}
+use Prim.Native.Nat.{ℕ, suc, _+_, _-_, _≤_, _<_}
+use lib.ListN.{length}
+use Rattle.tables.specs.Sets.{byte}
+use Rattle.tables.specs.Tables.{h-min}
+
+-- k is in Pos(c, i), in Neg(c, i), outside Neg(c, i)
+abbrev pub In-pos : (w : List ℕ) → (c i k : ℕ) → Type 0
+In-pos w c i k = (k ≤ i) × (byte w (i - k) ≡ c)
+
+abbrev pub In-neg : (w : List ℕ) → (c i k : ℕ) → Type 0
+In-neg w c i k = (k ≤ i) × (byte w (i - k) ≢ c)
+
+abbrev pub Out-neg : (w : List ℕ) → (c i k : ℕ) → Type 0
+Out-neg w c i k = k ≤ i → byte w (i - k) ≡ c
+
+-- the pattern has period k: w(i) = w(i + k) wherever both are in the pattern
+abbrev pub Has-period : (w : List ℕ) → (k : ℕ) → Type 0
+Has-period w k = (i : ℕ) → i + k < length w → byte w i ≡ byte w (i + k)
+
+-- h is h_min(k)
+pub record H-min (w : List ℕ) (k h : ℕ) : Type 0 where
+  pub low : k ≤ suc h
+  pub high : h < length w
+  pub outside : (j : ℕ) → h < j → j < length w → Out-neg w (byte w j) j k
+  pub least : k ≤ h → In-neg w (byte w h) h k
+
+-- k is k_min(h), not 0
+pub record K-min (w : List ℕ) (h k : ℕ) : Type 0 where
+  pub positive : 1 ≤ k
+  pub within : k ≤ h
+  pub value : h-min w k ≡ h
+  pub least : (j : ℕ) → 1 ≤ j → j < k → h-min w j ≢ h
+
+-- k_min(h) is 0: there is no k from 1 to m with h_min(k) = h and h at least k
+abbrev pub No-k-min : (w : List ℕ) → (h : ℕ) → Type 0
+No-k-min w h = (k : ℕ) → 1 ≤ k → k ≤ h → h-min w k ≢ h
+
+-- r is r_min(h)
+pub record R-min (w : List ℕ) (h r : ℕ) : Type 0 where
+  pub above : h < r
+  pub within : r ≤ length w
+  pub value : suc (h-min w r) ≡ r
+  pub least : (j : ℕ) → h < j → j < r → suc (h-min w j) ≢ j
+
+-- p is the period
+pub record Period (w : List ℕ) (p : ℕ) : Type 0 where
+  pub positive : 1 ≤ p
+  pub within : p ≤ length w
+  pub value : Has-period w p
+  pub least : (j : ℕ) → 1 ≤ j → j < p → Has-period w j → ⊥
+
+-- k is Δ1(c, s), s from 1 to m: position m - s - 1 is g where s is below m
+pub record First-shift (w : List ℕ) (c s k : ℕ) : Type 0 where
+  pub positive : 1 ≤ k
+  pub within : k ≤ length w
+  pub outside-last : (g : ℕ) → g + s + 1 ≡ length w → Out-neg w (byte w g) g k
+  pub outside-seen : (g : ℕ) → g + 1 ≡ length w → Out-neg w c g k
+  pub least :
+      (j : ℕ) → 1 ≤ j → j < k →
+      ((g : ℕ) × (g + s + 1 ≡ length w) × In-neg w (byte w g) g j) ⊎ ((g : ℕ) × (g + 1 ≡ length w) × In-neg w c g j)

@@ -1,0 +1,82 @@
+-- Colussi's tables of a pattern w of m bytes, by their sets (document 01, "The motif's tables"; document 002, sections 2 and 5).
+-- These are definitions.
+use mathlib.Core.Bool.{_&&_, cond}
+use mathlib.Core.List.{List, [], _∷_, _++_, map}
+use Prim.Native.Nat.{ℕ, zero, suc, _+_, _*_, _-_, _/_, _%_}
+use lib.Dec.{ltb, leb, eqb}
+use lib.IntN.{ℤ, pos, negsuc, subℕ}
+use lib.ListN.{length, drop}
+use Rattle.tables.specs.Least.{least-from, all-from}
+use Rattle.tables.specs.Sets.{byte, outside, Neg}
+
+-- h_min(k), k from 1 to m: the least h at or above k - 1 such that k is outside Neg(w(j), j) for all j above h
+unfoldable pub h-min : (w : List ℕ) → (k : ℕ) → ℕ
+h-min w k =
+    least-from (length w) (k - 1) λ h.
+    all-from (length w - suc h) (suc h) λ j.
+    outside (Neg w (byte w j) (pos j)) k
+
+-- k_min(h): the least k from 1 to m with h_min(k) = h and h at least k; 0 if there is none
+unfoldable pub k-min : (w : List ℕ) → (h : ℕ) → ℕ
+k-min w h =
+    let k = least-from (length w) 1 (λ k. eqb (h-min w k) h && leb k h) in
+    cond (leb k (length w)) k 0
+
+-- r_min(h): the least r above h with h_min(r) = r - 1
+unfoldable pub r-min : (w : List ℕ) → (h : ℕ) → ℕ
+r-min w h = least-from (length w) (suc h) λ r. eqb (h-min w r) (r - 1)
+
+-- p, the period: the least p of 1 or more with w(i) = w(i + p) wherever both are in the pattern, so at most m
+unfoldable pub period : (w : List ℕ) → ℕ
+period w =
+    least-from (length w - 1) 1 λ p.
+    all-from (length w - p) 0 λ i.
+    eqb (byte w i) (byte w (i + p))
+
+-- the h below m - 1 with k_min(h) not 0, by rising k_min
+unfoldable pub second-group-from : (count k : ℕ) → (w : List ℕ) → List ℕ
+second-group-from zero k w = []
+second-group-from (suc n) k w =
+    let h = h-min w k in
+    let later = second-group-from n (suc k) w in
+    cond (ltb h (length w - 1) && eqb (k-min w h) k) (h ∷ later) later
+
+unfoldable pub second-group : (w : List ℕ) → List ℕ
+second-group w = second-group-from (length w) 1 w
+
+-- the h below m - 1 with k_min(h) = 0, rising
+unfoldable pub third-group-from : (count h : ℕ) → (w : List ℕ) → List ℕ
+third-group-from zero h w = []
+third-group-from (suc n) h w =
+    let later = third-group-from n (suc h) w in
+    cond (eqb (k-min w h) 0) (h ∷ later) later
+
+unfoldable pub third-group : (w : List ℕ) → List ℕ
+third-group w = third-group-from (length w - 1) 0 w
+
+-- the order: h(1) = m - 1; then the other h with k_min(h) not 0, by rising k_min; then the remaining ones rising
+unfoldable pub order : (w : List ℕ) → List ℕ
+order w = (length w - 1) ∷ second-group w ++ third-group w
+
+-- the order as it is stored: the entry after the last is -1
+unfoldable pub stored-order : (w : List ℕ) → List ℤ
+stored-order w = map pos (order w) ++ (negsuc 0 ∷ [])
+
+-- Δ2 as it is stored, entry i at i - 1: 0 for i = 1, k_min(h(i)) in the second group, r_min(h(i)) in the third, p for i = m + 1
+unfoldable pub Δ2 : (w : List ℕ) → List ℕ
+Δ2 w = 0 ∷ map (k-min w) (second-group w) ++ map (r-min w) (third-group w) ++ (period w ∷ [])
+
+-- Δ1(c, s), s from 1 to m: the least k of 1 or more outside Neg(w(m-s-1), m-s-1) and outside Neg(c, m-1); for s = m the first set is empty
+unfoldable pub Δ1 : (w : List ℕ) → (c s : ℕ) → ℕ
+Δ1 w c s =
+    let m = length w in
+    least-from m 1 λ k.
+    outside (Neg w (byte w (m - s - 1)) (subℕ m (s + 1))) k && outside (Neg w c (pos (m - 1))) k
+
+-- Δ1 as it is stored: Δ1(c, s) at c × m + s - 1 for all 256 values of c
+unfoldable pub stored-Δ1-from : (count at : ℕ) → (w : List ℕ) → List ℕ
+stored-Δ1-from zero i w = []
+stored-Δ1-from (suc n) i w = Δ1 w (i / length w) (i % length w + 1) ∷ stored-Δ1-from n (suc i) w
+
+unfoldable pub stored-Δ1 : (w : List ℕ) → List ℕ
+stored-Δ1 w = stored-Δ1-from (256 * length w) 0 w
