@@ -1,0 +1,73 @@
+-- `lower` meets its contract. The loop's invariant: the entries below i are changed.
+-- Assumes nothing.
+use Prim.Native.Nat.{_≤_, _-_}
+use mathlib.Core.Bool.{true}
+use mathlib.Core.Logic.{⊎-elim}
+use mathlib.Core.Path.{_≡_}
+use native.Mathlib.Omega.{arith}
+use borrow.Author.Tests.{lt-ltb, le-ltb}
+use lib.ListN.{length}
+use Rattle.delta1.proofs.Changed.{changed-none, changed-more}
+use Rattle.delta1.specs.Rows.{Changed, lowered-if}
+use Rattle.delta1.proofs.lower.Statement.{statement}
+use Rattle.delta1.proofs.lower.Tie as tie
+
+abbrev Inv-loop : tie.InvT-loop
+Inv-loop shift row₀ i₀ i-end row i = (i ≤ length row₀) × Changed (λ i e. lowered-if true shift e) i row₀ row
+
+abbrev μ-loop : tie.MeasureT-loop
+μ-loop shift row₀ i₀ i-end row i = length row₀ - i
+
+loop-holds : tie.Need-loop-holds Inv-loop μ-loop
+loop-holds c = (omega arith, changed-none _ _)
+
+mul-entry : tie.Need-mul-entry Inv-loop μ-loop
+mul-entry c = omega arith
+
+slice-read-entry : tie.Need-slice-read-entry Inv-loop μ-loop
+slice-read-entry c = omega arith
+
+mul-row : tie.Need-mul-row Inv-loop μ-loop
+mul-row c = omega arith
+
+slice-write-row : tie.Need-slice-write-row Inv-loop μ-loop
+slice-write-row c = omega arith
+
+add-i : tie.Need-add-i Inv-loop μ-loop
+add-i c = omega arith
+
+loop-less : tie.Need-loop-less Inv-loop μ-loop
+loop-less c = omega arith
+
+loop-again : tie.Need-loop-again Inv-loop μ-loop
+loop-again c =
+    let at = c .before .before .before .loop in (
+      omega arith,
+      changed-more _ (at .i) _ (at .inv .1) (omega arith)
+          (⊎-elim (λ (t, e). rw (e, lt-ltb _ _ (t .taken))) (λ (t, e). rw (e, le-ltb _ _ (t .left))) (c .if1 .came)),
+    )
+
+same-length : tie.Need-same-length Inv-loop μ-loop
+same-length c = omega arith
+
+returns : tie.Need-returns Inv-loop μ-loop
+returns c =
+    let done : c .before .loop .i ≡ length (c .before .before .args .row .now) = omega arith in
+    rw done at (c .before .loop .inv .1)
+
+pub lower-spec : {M : Type 1} → statement M
+lower-spec =
+    tie.close
+    (tie.spec
+    Inv-loop
+    μ-loop
+    loop-holds
+    mul-entry
+    slice-read-entry
+    mul-row
+    slice-write-row
+    add-i
+    loop-less
+    loop-again
+    same-length
+    returns)

@@ -1,0 +1,158 @@
+-- `lower_row` meets its contract. In front the two bytes are compared; past the front there is no byte to compare, and each entry is lowered.
+-- Assumes nothing.
+use Prim.Native.Nat.{ℕ, _+_, _-_, _≤_, _<_}
+use mathlib.Core.Bool.{Bool, true}
+use mathlib.Core.List.{List}
+use mathlib.Core.Path.{_≡_, refl, _∙_, ap}
+use native.Mathlib.Omega.{arith}
+use borrow.Author.Needs.{needs}
+use borrow.Author.Tests.{le-leb, lt-leb}
+use borrow.Rule.Slice.PartMut.{midOf}
+use lib.ListN.{length, take, length-take}
+use lib.Seq.{length-take-le}
+use Rattle.delta1.proofs.Parts.{part-length, part-entry, changed-parts}
+use Rattle.delta1.specs.Rows.{lowered-if, equal-at, allows}
+use Rattle.delta1.proofs.lower_row.Statement.{statement}
+use Rattle.delta1.proofs.lower_row.Tie as tie
+
+-- what is compared for the n entries of the row's front
+abbrev bytes : (v : List ℕ) (n : ℕ) → List ℕ
+bytes v n = midOf 1 (n + 1 - 1) v
+
+abbrev others : (v row : List ℕ) (s : ℕ) → List ℕ
+others v row s = midOf (s + 1) (length row - (s + 1)) v
+
+module _ (v row : List ℕ) (s n : ℕ) (within : n + s + 1 ≡ length row) (room : length row ≤ length v) where
+  bytes-length : length (bytes v n) ≡ n
+  bytes-length = part-length 1 (n + 1 - 1) v (omega arith) ∙ omega arith
+
+  others-length : length (others v row s) ≡ n
+  others-length = part-length (s + 1) (length row - (s + 1)) v (omega arith) ∙ omega arith
+
+  front-test : (i : ℕ) → i < n → equal-at (bytes v n) (others v row s) i ≡ allows v (length row) s (i + 1)
+  front-test i h =
+      let one-on : 1 + i ≡ i + 1 = omega arith in
+      let shift-on : s + 1 + i ≡ i + 1 + s = omega arith in
+      rw (
+        part-entry 1 (n + 1 - 1) v (omega arith) i (omega arith),
+        part-entry (s + 1) (length row - (s + 1)) v (omega arith) i (omega arith),
+        lt-leb (length row) (i + 1 + s) (omega arith),
+        one-on,
+        shift-on,
+      )
+
+  past-test : (i : ℕ) → true ≡ allows v (length row) s (n + i + 1)
+  past-test i = rw (le-leb (length row) (n + i + 1 + s) (omega arith))
+
+sub-front : tie.Need-sub-front
+sub-front c = search needs
+
+sub-front-2 : tie.Need-sub-front-2
+sub-front-2 c = search needs
+
+add-lower-where-equal : tie.Need-add-lower-where-equal
+add-lower-where-equal c = search needs
+
+sub-lower-where-equal : tie.Need-sub-lower-where-equal
+sub-lower-where-equal c = search needs
+
+part-lower-where-equal-start : tie.Need-part-lower-where-equal-start
+part-lower-where-equal-start c = search needs
+
+part-lower-where-equal-end : tie.Need-part-lower-where-equal-end
+part-lower-where-equal-end c = search needs
+
+add-lower-where-equal-2 : tie.Need-add-lower-where-equal-2
+add-lower-where-equal-2 c = search needs
+
+sub-lower-where-equal-2 : tie.Need-sub-lower-where-equal-2
+sub-lower-where-equal-2 c = search needs
+
+part-lower-where-equal-start-2 : tie.Need-part-lower-where-equal-start-2
+part-lower-where-equal-start-2 c = search needs
+
+part-lower-where-equal-end-2 : tie.Need-part-lower-where-equal-end-2
+part-lower-where-equal-end-2 c = search needs
+
+cast-lower-where-equal : tie.Need-cast-lower-where-equal
+cast-lower-where-equal c = search needs
+
+slice-relend-prefix-lower-where-equal : tie.Need-slice-relend-prefix-lower-where-equal
+slice-relend-prefix-lower-where-equal c = search needs
+
+slice-aggregate-lower-where-equal : tie.Need-slice-aggregate-lower-where-equal
+slice-aggregate-lower-where-equal c = simp length-take (omega arith)
+
+lower-where-equal-requires : tie.Need-lower-where-equal-requires
+lower-where-equal-requires c κs =
+    let a = c .before .before .before .before .before .args in
+    let v = a .reversed .now in
+    let row = a .row .now in
+    let n = length row - a .shift - 1 in
+    let lent : length (take n row) ≡ n = length-take-le n row (omega arith) in
+    let first = bytes-length v row (a .shift) n (omega arith) (omega arith) in
+    let second = others-length v row (a .shift) n (omega arith) (omega arith) in
+    (omega arith, omega arith)
+
+cast-lower : tie.Need-cast-lower
+cast-lower c = search needs
+
+mul-lower : tie.Need-mul-lower
+mul-lower c = search needs
+
+sub-lower : tie.Need-sub-lower
+sub-lower c = search needs
+
+part-lower-start : tie.Need-part-lower-start
+part-lower-start c = search needs
+
+part-lower-end : tie.Need-part-lower-end
+part-lower-end c = search needs
+
+lower-requires : tie.Need-lower-requires
+lower-requires c κs = search needs
+
+same-length : tie.Need-same-length
+same-length c = search needs
+
+returns : tie.Need-returns
+returns c =
+    let a = c .before .before .before .before .before .before .before .before .before .before .before .before .args in
+    let v = a .reversed .now in
+    let row = a .row .now in
+    let n = length row - a .shift - 1 in
+    let lowered : ℕ → Bool → ℕ = λ e t. lowered-if t (a .shift) e in
+    changed-parts _ _ _ n _ _ _ _
+    (omega arith)
+    refl
+    (c .before .before .before .before .before .before .lower-where-equal .ensures)
+    (c .before .before .lower .ensures)
+    (λ i e h. ap (lowered e) (front-test v row (a .shift) n (omega arith) (omega arith) i h))
+    (λ i e. ap (lowered e) (past-test v row (a .shift) n (omega arith) (omega arith) i))
+
+pub lower-row-spec : {M : Type 1} → statement M
+lower-row-spec =
+    tie.close
+    (tie.spec
+    sub-front
+    sub-front-2
+    add-lower-where-equal
+    sub-lower-where-equal
+    part-lower-where-equal-start
+    part-lower-where-equal-end
+    add-lower-where-equal-2
+    sub-lower-where-equal-2
+    part-lower-where-equal-start-2
+    part-lower-where-equal-end-2
+    cast-lower-where-equal
+    slice-relend-prefix-lower-where-equal
+    slice-aggregate-lower-where-equal
+    lower-where-equal-requires
+    cast-lower
+    mul-lower
+    sub-lower
+    part-lower-start
+    part-lower-end
+    lower-requires
+    same-length
+    returns)

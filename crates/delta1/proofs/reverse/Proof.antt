@@ -1,0 +1,68 @@
+-- `reverse` meets its contract. The loop's invariant: the entries below i are changed, entry x to the byte at m - 1 - x.
+-- Assumes nothing.
+use Prim.Native.Nat.{_≤_, _-_}
+use mathlib.Core.Path.{_≡_, refl}
+use native.Mathlib.Omega.{arith}
+use lib.ListN.{length}
+use Rattle.delta1.proofs.Changed.{changed-none, changed-more}
+use Rattle.delta1.specs.Rows.{Changed}
+use Rattle.tables.specs.Sets.{byte}
+use Rattle.delta1.proofs.reverse.Statement.{statement}
+use Rattle.delta1.proofs.reverse.Tie as tie
+
+abbrev Inv-loop : tie.InvT-loop
+Inv-loop pattern reversed₀ m i₀ reversed i =
+    (i ≤ length pattern) × Changed (λ x e. byte pattern (length pattern - 1 - x)) i reversed₀ reversed
+
+abbrev μ-loop : tie.MeasureT-loop
+μ-loop pattern reversed₀ m i₀ reversed i = length pattern - i
+
+loop-holds : tie.Need-loop-holds Inv-loop μ-loop
+loop-holds c = (omega arith, changed-none _ _)
+
+sub-reversed : tie.Need-sub-reversed Inv-loop μ-loop
+sub-reversed c = omega arith
+
+sub-reversed-2 : tie.Need-sub-reversed-2 Inv-loop μ-loop
+sub-reversed-2 c = omega arith
+
+shared-slice-read-reversed : tie.Need-shared-slice-read-reversed Inv-loop μ-loop
+shared-slice-read-reversed c = omega arith
+
+slice-write-reversed : tie.Need-slice-write-reversed Inv-loop μ-loop
+slice-write-reversed c = omega arith
+
+add-i : tie.Need-add-i Inv-loop μ-loop
+add-i c = omega arith
+
+loop-less : tie.Need-loop-less Inv-loop μ-loop
+loop-less c = omega arith
+
+loop-again : tie.Need-loop-again Inv-loop μ-loop
+loop-again c = (omega arith, changed-more _ _ _ (c .before .before .loop .inv .1) (omega arith) refl)
+
+same-length : tie.Need-same-length Inv-loop μ-loop
+same-length c = omega arith
+
+returns : tie.Need-returns Inv-loop μ-loop
+returns c x i e =
+    let m = length (c .before .before .args .pattern .now) in
+    let place : m - 1 - x ≡ i = omega arith in
+    rw place at (c .before .loop .inv .1 .changed x (omega arith))
+
+pub reverse-spec : {M : Type 1} → statement M
+reverse-spec =
+    tie.close
+    (tie.spec
+    Inv-loop
+    μ-loop
+    loop-holds
+    sub-reversed
+    sub-reversed-2
+    shared-slice-read-reversed
+    slice-write-reversed
+    add-i
+    loop-less
+    loop-again
+    same-length
+    returns)

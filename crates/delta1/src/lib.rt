@@ -1,0 +1,142 @@
+// Δ1, a row of m entries for each byte: all rows are filled with m, and then each position of the pattern lowers the row of its byte once.
+ghost use mathlib.Core.Bool.{true};
+ghost use mathlib.Core.Path.{_≡_};
+ghost use Prim.Native.Nat.{_*_, _-_, _≤_, _<_};
+ghost use lib.ListN.{length};
+ghost use Rattle.answers.specs.Buffers.{in-front};
+ghost use Rattle.delta1.specs.Rows.{Each-changed, Lowered, equal-at, Lowered-row, Reversed};
+ghost use Rattle.delta1.specs.Rows.{Linked, Sizes, Row-ends, Row-begun, Right-row, Rows-begun, Right-table};
+ghost use Rattle.tables.specs.Sets.{byte};
+ghost use Rattle.tables.specs.Tables.{stored-Δ1};
+
+// Every entry becomes `value`.
+fn fill(table: &mut [u16], value: u16)
+    ensures { λ _. ⌜ Each-changed (λ i e. value) (now (table .entry)) (now (table .exit)) ⌝ }
+{
+    for i in 0..table.len() {
+        table[i] = value;
+    }
+}
+
+// The pattern's bytes, the last first.
+fn reverse(pattern: &[u8], reversed: &mut [u8])
+    requires { ⌜ length (now pattern) ≤ length (now reversed) ⌝ }
+    ensures { λ _. ⌜ Reversed (now (pattern .entry)) (now (reversed .exit)) ⌝ }
+{
+    let m = pattern.len();
+    for i in 0..m {
+        reversed[i] = pattern[m - 1 - i];
+    }
+}
+
+// The end of each row, Δ1(c, m), and the links: entry i + 1 of `last` is the last position below i that has the byte of i, one up, or 0.
+fn link(pattern: &[u8], last: &mut [u8], table: &mut [u16])
+    requires { ⌜ Sizes (now pattern) (now last) (now table) ⌝ }
+    requires { ⌜ Row-ends (now pattern) 0 (now table) ⌝ }
+    ensures { λ _. ⌜ Linked (now (pattern .entry)) (length (now (pattern .entry)) - 1) (now (last .exit)) ⌝ }
+    ensures { λ _. ⌜ Row-ends (now (pattern .entry)) (length (now (pattern .entry)) - 1) (now (table .exit)) ⌝ }
+{
+    let m = pattern.len();
+    for i in 0..m - 1 {
+        let end = pattern[i] as usize * m + m - 1;
+        last[i + 1] = (m - table[end] as usize) as u8;
+        table[end] = (m - 1 - i) as u16;
+    }
+}
+
+// Each entry that is larger than `shift` is lowered to it.
+fn lower(shift: u16, row: &mut [u16])
+    ensures { λ _. ⌜ Lowered (λ x. true) shift (now (row .entry)) (now (row .exit)) ⌝ }
+{
+    for i in 0..row.len() {
+        let entry = row[i];
+        row[i] = if shift < entry { shift } else { entry };
+    }
+}
+
+// The same where two bytes are equal.
+fn lower_where_equal(bytes: &[u8], others: &[u8], shift: u16, row: &mut [u16])
+    requires { ⌜ length (now bytes) ≡ length (now row) ⌝ }
+    requires { ⌜ length (now others) ≡ length (now row) ⌝ }
+    ensures { λ _. ⌜ Lowered (equal-at (now (bytes .entry)) (now (others .entry))) shift (now (row .entry)) (now (row .exit)) ⌝ }
+{
+    for i in 0..row.len() {
+        let entry = row[i];
+        row[i] = if bytes[i] == others[i] && shift < entry {
+            shift
+        } else {
+            entry
+        };
+    }
+}
+
+// The same where the last shift allows that: `reversed` has the pattern's bytes, the last first.
+fn lower_row(reversed: &[u8], shift: usize, row: &mut [u16])
+    requires { ⌜ length (now row) ≤ length (now reversed) ⌝ }
+    requires { ⌜ shift < length (now row) ⌝ }
+    requires { ⌜ length (now row) ≤ 128 ⌝ }
+    ensures { λ _. ⌜ Lowered-row (now (reversed .entry)) shift (now (row .entry)) (now (row .exit)) ⌝ }
+{
+    let m = row.len();
+    let front = m - shift - 1;
+    lower_where_equal(
+        &reversed[1..front + 1],
+        &reversed[shift + 1..m],
+        shift as u16,
+        &mut row[..front],
+    );
+    lower(shift as u16, &mut row[front..]);
+}
+
+// The row of the byte at `position`, the last that has it: this one and those that the links lead to lower the row to their shifts.
+fn write_row(pattern: &[u8], reversed: &[u8], last: &[u8], position: usize, row: &mut [u16])
+    requires { ⌜ Row-begun (now pattern) (now reversed) (now last) position (now row) ⌝ }
+    ensures { λ _. ⌜ Right-row (now (pattern .entry)) (byte (now (pattern .entry)) position) (now (row .exit)) ⌝ }
+{
+    let mut at = position + 1;
+    while at > 0 {
+        lower_row(reversed, pattern.len() - at, row);
+        at = last[at] as usize;
+    }
+}
+
+// The rows of the bytes that the pattern has below m - 1, each at the last position that has its byte.
+fn write_rows(pattern: &[u8], reversed: &[u8], last: &[u8], table: &mut [u16])
+    requires { ⌜ Rows-begun (now pattern) (now reversed) (now last) (now table) ⌝ }
+    ensures { λ _. ⌜ Right-table (now (pattern .entry)) (now (table .exit)) ⌝ }
+{
+    let m = pattern.len();
+    for i in 0..m - 1 {
+        let start = pattern[i] as usize * m;
+        let end = start + m;
+        if table[end - 1] as usize == m - 1 - i {
+            write_row(pattern, reversed, last, i, &mut table[start..end]);
+        }
+    }
+}
+
+// The table of 256 rows.
+fn write_table(pattern: &[u8], table: &mut [u16])
+    requires { ⌜ 1 ≤ length (now pattern) ⌝ }
+    requires { ⌜ length (now pattern) ≤ 128 ⌝ }
+    requires { ⌜ length (now table) ≡ 256 * length (now pattern) ⌝ }
+    ensures { λ _. ⌜ now (table .exit) ≡ stored-Δ1 (now (pattern .entry)) ⌝ }
+{
+    let mut reversed: [u8; 129] = [0; 129];
+    let mut last: [u8; 129] = [0; 129];
+    reverse(pattern, &mut reversed);
+    fill(table, pattern.len() as u16);
+    link(pattern, &mut last, table);
+    write_rows(pattern, &reversed, &last, table);
+}
+
+// Δ1(c, s) at c × m + s - 1, and past those entries what stood there. It is public for the crate that prepares a pattern.
+pub fn write_delta1(pattern: &[u8], delta1: &mut [u16])
+    requires { ⌜ 1 ≤ length (now pattern) ⌝ }
+    requires { ⌜ length (now pattern) ≤ 128 ⌝ }
+    requires { ⌜ 256 * length (now pattern) ≤ length (now delta1) ⌝ }
+    ensures { λ _. ⌜ now (delta1 .exit) ≡ in-front (stored-Δ1 (now (pattern .entry))) (now (delta1 .entry)) ⌝ }
+{
+    let count = 256 * pattern.len();
+    write_table(pattern, &mut delta1[..count]);
+}

@@ -1,0 +1,4 @@
+pub mod Signed
+pub mod Stores
+pub mod Entries
+pub mod Copied

@@ -1,0 +1,255 @@
+-- `order::minima::h_min_table` meets its contract. The invariant: the entries from 1 to k - 1 are right, and `base` is one of these.
+-- Where the entry at k - base lies high enough it is the entry at k too, and else all above the position compared first agree.
+-- Assumes nothing.
+use mathlib.Core.Bool.{Bool, true, false}
+use mathlib.Core.List.{List}
+use mathlib.Core.Logic.{_⊎_, inl, inr, ⊎-elim}
+use mathlib.Core.Path.{_≡_, sym, _∙_, ap}
+use Prim.Native.Nat.{ℕ, _+_, _-_, _≤_, _<_}
+use native.Mathlib.Omega.{arith}
+use borrow.Author.Tests.{ltb-true, ltb-false}
+use lib.Dec.{ltb}
+use lib.IntN.{ℤ, pos, natAbs}
+use lib.ListN.{length, getD, set, length-set}
+use lib.Signed.{ltZ}
+use mir.Syntax.{w16}
+use mir.Val.{SFits, toZ, ofZ}
+use Rattle.order.proofs.Copied.{copied, known-above}
+use Rattle.order.proofs.Entries.{entry, minus, h-min-small, entry-back, minus-fits, minus-back}
+use Rattle.tables.proofs.HMin.{h-min-facts}
+use Rattle.order.proofs.Signed.{small-fits, small, exceeds}
+use Rattle.order.proofs.Stores.{stored}
+use Rattle.tables.specs.Tables.{h-min}
+use Rattle.order.specs.Worked.{H-min-begun}
+use Rattle.tables.specs.Prepare.{Taken}
+use Rattle.order.proofs.minima.h_min_table.Statement.{statement}
+use Rattle.order.proofs.minima.h_min_table.Tie as tie
+
+-- the entries from 1 to k - 1 are right
+record Filled (w : List ℕ) (t : List ℤ) (k : ℕ) : Type 0 where
+  size : length t ≡ 129
+  high : k ≤ length w + 1
+  right : (j : ℕ) → 1 ≤ j → j < k → getD t j (pos 0) ≡ pos (h-min w j)
+
+record Begun (w : List ℕ) (t : List ℤ) (base k : ℕ) : Type 0 where
+  low : 1 ≤ base
+  below : base < k
+  filled : Filled w t k
+
+-- the test of a turn, and the position above which all agree where it fails
+abbrev lies-higher : List ℤ → (base d : ℕ) → Bool
+lies-higher t base d = ltZ (toZ w16 (entry t base)) (toZ w16 (ofZ w16 (minus t d)))
+
+abbrev known : List ℤ → (base d : ℕ) → ℕ
+known t base d = natAbs (toZ w16 (entry t base)) + d
+
+module _ {w : List ℕ} (taken : Taken w) where
+  more :
+      {t : List ℤ} {k : ℕ} → Filled w t k → (z : ℤ) → 1 ≤ k → k ≤ length w → z ≡ pos (h-min w k) →
+      Filled w (set t k (toZ w16 (ofZ w16 z))) (k + 1)
+  more {t} {k} r z l u e = record {
+    size = length-set t k _ ∙ r .size;
+    high = omega arith;
+    right = λ j a c.
+        stored (λ i x. x ≡ pos (h-min w i)) (pos 0) t k _ (omega (arith, taken)) (rw e (small (h-min w k) (omega (arith, h-min-small w taken k l u)))) j
+        (λ n. r .right j a (omega arith));
+  }
+
+  module _ {t : List ℤ} {base k : ℕ} (r : Begun w t base k) (u : k ≤ length w) where
+    abbrev d : ℕ
+    d = k - base
+
+    base-right : getD t base (pos 0) ≡ pos (h-min w base)
+    base-right = r .filled .right base (r .low) (r .below)
+
+    base-small : h-min w base < 128
+    base-small = h-min-small w taken base (r .low) (omega (arith, r, u))
+
+    base-back : toZ w16 (entry t base) ≡ pos (h-min w base)
+    base-back = entry-back w taken t base (r .low) (omega (arith, r, u)) base-right
+
+    d-right : getD t d (pos 0) ≡ pos (h-min w d)
+    d-right = r .filled .right d (omega (arith, r)) (omega (arith, r))
+
+    fits : SFits w16 (minus t d)
+    fits = minus-fits w taken t d (omega (arith, r)) (omega (arith, r, u)) d-right
+
+    known-is : known t base d ≡ h-min w base + d
+    known-is = rw base-back
+
+    tests : lies-higher t base d ≡ ltb (h-min w base + d) (h-min w d)
+    tests =
+        rw (base-back, minus-back w taken t d (omega (arith, r)) (omega (arith, r, u)) d-right)
+        (exceeds (h-min w base) (h-min w d) d)
+
+    copies : lies-higher t base d ≡ true → getD t d (pos 0) ≡ pos (h-min w k)
+    copies e =
+        let higher = ltb-true (h-min w base + d) (h-min w d) (sym tests ∙ e) in
+        d-right
+        ∙ ap pos (sym (copied w base d k (r .low) (omega (arith, r)) (omega (arith, r)) u higher))
+
+    begins :
+        lies-higher t base d ≡ false → (from : ℕ) →
+        (((known t base d < length w) × (from ≡ known t base d)) ⊎ ((length w ≤ known t base d) × (from ≡ length w - 1))) →
+        H-min-begun w k from
+    begins e from which = record {
+      taken = taken;
+      positive = omega (arith, r);
+      low = ⊎-elim (λ q. omega (arith, r, known-is, h-min-facts w base (r .low) (omega (arith, r, u)) .low)) (λ q. omega (arith, u)) which;
+      high = ⊎-elim (λ q. omega arith) (λ q. omega (arith, r, u)) which;
+      outside = λ j l v.
+          ⊎-elim
+          (λ q. known-above w base d k (r .low) (omega (arith, r)) (omega (arith, r)) u not-higher j (omega (arith, known-is)) v)
+          (λ q. absurd (omega arith))
+          which;
+    }
+      where
+        not-higher : h-min w d ≤ h-min w base + d
+        not-higher = ltb-false (h-min w base + d) (h-min w d) (sym tests ∙ e)
+
+abbrev Inv-loop : tie.InvT-loop
+Inv-loop pattern h-min₀ m base₀ k₀ k-end h-min base k = Begun pattern h-min base k
+
+abbrev μ-loop : tie.MeasureT-loop
+μ-loop pattern h-min₀ m base₀ k₀ k-end h-min base k = length pattern + 1 - k
+
+sub-h-min-from : tie.Need-sub-h-min-from Inv-loop μ-loop
+sub-h-min-from c = omega arith
+
+h-min-from-requires : tie.Need-h-min-from-requires Inv-loop μ-loop
+h-min-from-requires c κs =
+    record {
+      taken = c .before .pre .0;
+      positive = omega arith;
+      low = omega arith;
+      high = omega arith;
+      outside = λ j l u. absurd (omega arith);
+    }
+
+element-set-from-h-min : tie.Need-element-set-from-h-min Inv-loop μ-loop
+element-set-from-h-min c = omega arith
+
+add-k-end : tie.Need-add-k-end Inv-loop μ-loop
+add-k-end c = omega arith
+
+loop-holds : tie.Need-loop-holds Inv-loop μ-loop
+loop-holds c =
+    let w = c .before .before .args .pattern .now in
+    let t = c .before .before .args .h-min .now in
+    let none : Filled w t 1 = record { size = c .before .before .pre .1; high = omega arith; right = λ j l u. absurd (omega arith) } in
+    record {
+      low = omega arith;
+      below = omega arith;
+      filled = more (c .before .before .pre .0) none (c .h-min-from .result) (omega arith) (c .before .before .pre .0 .some) (c .h-min-from .ensures);
+    }
+
+taken-in : (c : tie.In-loop Inv-loop μ-loop) → Taken (c .before .before .before .before .args .pattern .now)
+taken-in c = c .before .before .before .before .pre .0
+
+sub-d : tie.Need-sub-d Inv-loop μ-loop
+sub-d c = omega arith
+
+mul-low : tie.Need-mul-low Inv-loop μ-loop
+mul-low c = omega arith
+
+element-copy-out-low : tie.Need-element-copy-out-low Inv-loop μ-loop
+element-copy-out-low c = omega arith
+
+mul-h : tie.Need-mul-h Inv-loop μ-loop
+mul-h c = omega arith
+
+element-copy-out-h : tie.Need-element-copy-out-h Inv-loop μ-loop
+element-copy-out-h c = omega arith
+
+cast-if1 : tie.Need-cast-if1 Inv-loop μ-loop
+cast-if1 c = small-fits _ (omega arith)
+
+sub-if1 : tie.Need-sub-if1 Inv-loop μ-loop
+sub-if1 c =
+    let d = c .before .before in
+    fits (taken-in d) (d .before .loop .inv) (omega arith)
+
+mul-h-2 : tie.Need-mul-h-2 Inv-loop μ-loop
+mul-h-2 c = omega arith
+
+element-set-from-h : tie.Need-element-set-from-h Inv-loop μ-loop
+element-set-from-h c = omega arith
+
+cast-known : tie.Need-cast-known Inv-loop μ-loop
+cast-known c =
+    let d = c .before .before .before in
+    let r = d .before .loop .inv in
+    rw (base-back (taken-in d) r (omega arith)) (tt, record { fits = omega (arith, base-small (taken-in d) r (omega arith)) })
+
+add-known : tie.Need-add-known Inv-loop μ-loop
+add-known c =
+    let d = c .before .before .before in
+    let r = d .before .loop .inv in
+    rw (known-is (taken-in d) r (omega arith)) (omega (arith, base-small (taken-in d) r (omega arith)))
+
+sub-from : tie.Need-sub-from Inv-loop μ-loop
+sub-from c = omega arith
+
+h-min-from-requires-2 : tie.Need-h-min-from-requires-2 Inv-loop μ-loop
+h-min-from-requires-2 c κs =
+    let d = c .before .before .before .before in
+    let r = d .before .loop .inv in
+    begins (taken-in d) r (omega arith) (c .before .if1 .left) (c .if2 .from)
+    (⊎-elim (λ t. inl (t .0 .taken, t .1)) (λ t. inr (t .0 .left, t .1)) (c .if2 .came))
+
+mul-t27 : tie.Need-mul-t27 Inv-loop μ-loop
+mul-t27 c = omega arith
+
+element-set-from-h-min-2 : tie.Need-element-set-from-h-min-2 Inv-loop μ-loop
+element-set-from-h-min-2 c = omega arith
+
+add-k : tie.Need-add-k Inv-loop μ-loop
+add-k c = omega arith
+
+loop-less : tie.Need-loop-less Inv-loop μ-loop
+loop-less c = omega arith
+
+loop-again : tie.Need-loop-again Inv-loop μ-loop
+loop-again c =
+    let d = c .before .before .before in
+    let w = d .before .before .before .before .args .pattern .now in
+    let r = d .before .loop .inv in
+    let taken = taken-in d in
+    ⊎-elim
+    (λ t. rw (t .1, t .2) (record { low = r .low; below = omega arith; filled = more taken (r .filled) _ (omega arith) (omega arith) (copies taken r (omega arith) (t .0 .taken)) }))
+    (λ t. rw (t .3, t .4) (record { low = omega arith; below = omega arith; filled = more taken (r .filled) _ (omega arith) (omega arith) (t .2 .ensures) }))
+    (c .if1 .came)
+
+returns : tie.Need-returns Inv-loop μ-loop
+returns c = record { taken = c .before .before .before .before .pre .0; entry = λ k l u. c .before .loop .inv .filled .right k l (omega arith) }
+
+pub h-min-table-spec : {M : Type 1} → statement M
+h-min-table-spec =
+    tie.close
+    (tie.spec
+    Inv-loop
+    μ-loop
+    sub-h-min-from
+    h-min-from-requires
+    element-set-from-h-min
+    add-k-end
+    loop-holds
+    sub-d
+    mul-low
+    element-copy-out-low
+    mul-h
+    element-copy-out-h
+    cast-if1
+    sub-if1
+    mul-h-2
+    element-set-from-h
+    cast-known
+    add-known
+    sub-from
+    h-min-from-requires-2
+    mul-t27
+    element-set-from-h-min-2
+    add-k
+    loop-less
+    loop-again
+    returns)

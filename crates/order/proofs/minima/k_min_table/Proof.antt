@@ -1,0 +1,155 @@
+-- `order::minima::k_min_table` meets its contract. The invariant: each entry h is the least of the numbers above k with h_min = h, at most h,
+-- and 0 where there is none. Assumes nothing.
+use mathlib.Core.Bool.{true, false}
+use mathlib.Core.List.{List}
+use mathlib.Core.Logic.{inl, ⊎-elim}
+use mathlib.Core.Path.{_≡_, refl, sym, _∙_, ap}
+use Prim.Native.Nat.{ℕ, _-_, _≤_, _<_}
+use native.Mathlib.Omega.{arith}
+use borrow.Author.Tests.{leb-true, leb-false}
+use lib.Dec.{leb}
+use lib.IntN.{ℤ, pos, natAbs}
+use lib.ListN.{length, getD, set, length-set, getD-replicate}
+use lib.Signed.{leZ}
+use mir.Syntax.{w16}
+use mir.Val.{SFits, toZ, ofZ}
+use Rattle.order.proofs.Entries.{entry, minus, h-min-small, entry-back, minus-fits, minus-back}
+use Rattle.tables.proofs.KMin.{Least-above, least-above-here, least-above-other, least-above-all}
+use Rattle.order.proofs.Signed.{small-fits, at-least-zero}
+use Rattle.order.proofs.Stores.{stored}
+use Rattle.order.proofs.minima.k_min_table.Statement.{statement}
+use Rattle.order.proofs.minima.k_min_table.Tie as tie
+use Rattle.tables.specs.Tables.{h-min}
+use Rattle.order.specs.Worked.{H-min-table}
+
+record Begun (w t : List ℕ) (k : ℕ) : Type 0 where
+  size : length t ≡ 129
+  high : k ≤ length w
+  right : (h : ℕ) → h < length w → Least-above w k h (getD t h 0)
+
+module _ {w : List ℕ} {hs : List ℤ} (table : H-min-table w hs) {t : List ℕ} {k : ℕ} (r : Begun w t k) (l : 1 ≤ k) where
+  h-right : getD hs k (pos 0) ≡ pos (h-min w k)
+  h-right = table .entry k l (r .high)
+
+  position : toZ w16 (entry hs k) ≡ pos (h-min w k)
+  position = entry-back w (table .taken) hs k l (r .high) h-right
+
+  in-table : h-min w k < 129
+  in-table = omega (arith, h-min-small w (table .taken) k l (r .high))
+
+  fits : SFits w16 (minus hs k)
+  fits = minus-fits w (table .taken) hs k l (r .high) h-right
+
+  tests : leZ (pos 0) (toZ w16 (ofZ w16 (minus hs k))) ≡ leb k (h-min w k)
+  tests = rw (minus-back w (table .taken) hs k l (r .high) h-right) (at-least-zero (h-min w k) k)
+
+  take : leZ (pos 0) (toZ w16 (ofZ w16 (minus hs k))) ≡ true → Begun w (set t (natAbs (toZ w16 (entry hs k))) k) (k - 1)
+  take e = rw position (record {
+    size = length-set t _ k ∙ r .size;
+    high = omega (arith, r);
+    right = λ h b.
+        stored (Least-above w (k - 1)) 0 t (h-min w k) k (omega (arith, in-table, r))
+        (least-above-here w k _ l (leb-true _ _ (sym tests ∙ e)) refl)
+        h
+        (λ n. least-above-other w k h _ (λ a q. n (sym q)) (r .right h b));
+  })
+
+  leave : leZ (pos 0) (toZ w16 (ofZ w16 (minus hs k))) ≡ false → Begun w t (k - 1)
+  leave e =
+      let below = leb-false k (h-min w k) (sym tests ∙ e) in
+      record {
+        size = r .size;
+        high = omega (arith, r);
+        right = λ h b. least-above-other w k h _ (λ a q. omega arith) (r .right h b);
+      }
+
+abbrev Inv-loop : tie.InvT-loop
+Inv-loop pattern h-min k-min₀ k₀ k-min k = Begun pattern k-min k
+
+abbrev μ-loop : tie.MeasureT-loop
+μ-loop pattern h-min k-min₀ k₀ k-min k = k
+
+loop-holds : tie.Need-loop-holds Inv-loop μ-loop
+loop-holds c = record {
+  size = ap length (c .pre .1);
+  high = omega arith;
+  right = λ h b. inl (rw (c .pre .1) (getD-replicate 129 h 0 0 (omega arith)), λ j a u. absurd (omega arith));
+}
+
+mul-h : tie.Need-mul-h Inv-loop μ-loop
+mul-h c = omega arith
+
+element-copy-out-h : tie.Need-element-copy-out-h Inv-loop μ-loop
+element-copy-out-h c = omega arith
+
+cast-if1 : tie.Need-cast-if1 Inv-loop μ-loop
+cast-if1 c = small-fits _ (omega arith)
+
+sub-if1 : tie.Need-sub-if1 Inv-loop μ-loop
+sub-if1 c =
+    let d = c .before in
+    let s = d .before .before in
+    fits (s .pre .0) (d .before .loop .inv) (omega arith)
+
+-- the entry that is stored
+at-position :
+    (c : tie.Then1 Inv-loop μ-loop) →
+    let s = c .before .before .before .before in
+    let k = c .before .before .before .loop .k in
+    (toZ w16 (entry (s .args .h-min .now) k) ≡ pos (h-min (s .args .pattern .now) k)) × (h-min (s .args .pattern .now) k < 129)
+at-position c =
+    let d = c .before .before in
+    let s = d .before .before in
+    let r = d .before .loop .inv in
+    (position (s .pre .0) r (omega arith), in-table (s .pre .0) r (omega arith))
+
+cast-k-min : tie.Need-cast-k-min Inv-loop μ-loop
+cast-k-min c = omega arith
+
+cast-k-min-2 : tie.Need-cast-k-min-2 Inv-loop μ-loop
+cast-k-min-2 c = rw (at-position c .0) (tt, omega (arith, at-position c .1))
+
+mul-k-min : tie.Need-mul-k-min Inv-loop μ-loop
+mul-k-min c = rw (at-position c .0) (omega (arith, at-position c .1))
+
+element-write-k-min : tie.Need-element-write-k-min Inv-loop μ-loop
+element-write-k-min c = rw (at-position c .0) (at-position c .1)
+
+sub-k : tie.Need-sub-k Inv-loop μ-loop
+sub-k c = omega arith
+
+loop-less : tie.Need-loop-less Inv-loop μ-loop
+loop-less c = omega arith
+
+loop-again : tie.Need-loop-again Inv-loop μ-loop
+loop-again c =
+    let d = c .before .before in
+    let s = d .before .before in
+    let r = d .before .loop .inv in
+    ⊎-elim
+    (λ t. rw (t .1) (take (s .pre .0) r (omega arith) (t .0 .taken)))
+    (λ t. rw (t .1) (leave (s .pre .0) r (omega arith) (t .0 .left)))
+    (c .if1 .came)
+
+returns : tie.Need-returns Inv-loop μ-loop
+returns c = record { entry = λ h b. least-above-all _ (c .before .loop .k) h _ (omega arith) b (c .before .loop .inv .right h b) }
+
+pub k-min-table-spec : {M : Type 1} → statement M
+k-min-table-spec =
+    tie.close
+    (tie.spec
+    Inv-loop
+    μ-loop
+    loop-holds
+    mul-h
+    element-copy-out-h
+    cast-if1
+    sub-if1
+    cast-k-min
+    cast-k-min-2
+    mul-k-min
+    element-write-k-min
+    sub-k
+    loop-less
+    loop-again
+    returns)

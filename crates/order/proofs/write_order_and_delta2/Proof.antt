@@ -1,0 +1,66 @@
+-- `order::write_order_and_delta2` meets its contract: each call leaves what the next ones ask for, and the last two write the buffers.
+-- Assumes nothing.
+use mathlib.Core.List.{List}
+use mathlib.Core.Path.{_≡_}
+use Prim.Native.Nat.{ℕ, _+_}
+use borrow.Author.Needs.{needs}
+use lib.IntN.{ℤ}
+use lib.ListN.{length}
+use Rattle.answers.proofs.Fronts.{in-front-take}
+use Rattle.answers.specs.Buffers.{in-front}
+use Rattle.order.proofs.write_order_and_delta2.Statement.{statement}
+use Rattle.order.proofs.write_order_and_delta2.Tie as tie
+use Rattle.order.specs.Worked.{Order-stored}
+use Rattle.tables.proofs.Order.{stored-order-length}
+use Rattle.tables.specs.Prepare.{Taken}
+use Rattle.tables.specs.Tables.{stored-order}
+
+in-buffer : {w : List ℕ} {order' : List ℤ} → Taken w → (order : List ℤ) → order' ≡ in-front (stored-order w) order → Order-stored w order'
+in-buffer {w} taken order e =
+    record { taken = taken; stored = rw e (in-front-take (stored-order w) order (length w + 1) (stored-order-length w (taken .some))) }
+
+h-min-table-requires : tie.Need-h-min-table-requires
+h-min-table-requires c κs = search needs
+
+k-min-table-requires : tie.Need-k-min-table-requires
+k-min-table-requires c κs = search needs
+
+r-min-table-requires : tie.Need-r-min-table-requires
+r-min-table-requires c κs = search needs
+
+write-order-requires : tie.Need-write-order-requires
+write-order-requires c κs = search needs
+
+write-delta2-requires : tie.Need-write-delta2-requires
+write-delta2-requires c κs =
+    let ordered = c .before .before .before .before .before in
+    let periods = ordered .before .before .before .before in
+    let reached = periods .before .before .before in
+    let given = reached .before .before .before .before .before .before .before .pre in (
+      in-buffer (given .0) _ (ordered .write-order .ensures),
+      (reached .k-min-table .ensures, (periods .r-min-table .ensures, given .1 .1)),
+    )
+
+same-length : tie.Need-same-length
+same-length c = search needs
+
+same-length-2 : tie.Need-same-length-2
+same-length-2 c = search needs
+
+returns : tie.Need-returns
+returns c =
+    let shifts = c .before .before in
+    (shifts .before .before .before .before .before .before .write-order .ensures, shifts .write-delta2 .ensures)
+
+pub write-order-and-delta2-spec : {M : Type 1} → statement M
+write-order-and-delta2-spec =
+    tie.close
+    (tie.spec
+    h-min-table-requires
+    k-min-table-requires
+    r-min-table-requires
+    write-order-requires
+    write-delta2-requires
+    same-length
+    same-length-2
+    returns)
