@@ -1,0 +1,5 @@
+pub mod Steps
+pub mod Occurrences
+pub mod Search
+pub mod Promises
+pub mod Run

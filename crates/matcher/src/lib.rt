@@ -1,0 +1,68 @@
+// Colussi's search: the steps, the occurrences by their meaning and what is promised of them are in specs/.
+mod run;
+
+use answers::Answer;
+ghost use mathlib.Core.Path.{_≡_};
+ghost use Rattle.matcher.specs.Search.{search-status, Search-outcome};
+
+// The status of searching with buffers of these lengths, measured before anything is written.
+fn search_status(
+    m: usize,
+    n: usize,
+    order: usize,
+    delta2: usize,
+    delta1: usize,
+    found: usize,
+) -> u32
+    ensures { λ r. ⌜ r ≡ search-status m n order delta2 delta1 found ⌝ }
+{
+    if m == 0 || 128 < m {
+        return 4;
+    }
+    if 16384 < n {
+        return 6;
+    }
+    if order < m + 1 || delta2 < m + 1 || delta1 < 256 * m || found < n {
+        return 7;
+    }
+    0
+}
+
+// Lists every occurrence (find) of the pattern (motif) in the text (chain), and counts the comparisons (looks). Tables that stand in
+// the caller's buffers are not trusted: they are worked out anew.
+#[no_mangle]
+pub extern "C" fn search(
+    pattern: &[u8],
+    text: &[u8],
+    order: &mut [i16],
+    delta2: &mut [u16],
+    delta1: &mut [u16],
+    found: &mut [u16],
+) -> Answer
+    ensures { λ r. ⌜ Search-outcome (now (pattern .entry)) (now (text .entry)) (now (order .entry)) (now (order .exit)) (now (delta2 .entry)) (now (delta2 .exit)) (now (delta1 .entry)) (now (delta1 .exit)) (now (found .entry)) (now (found .exit)) r ⌝ }
+{
+    let status = search_status(
+        pattern.len(),
+        text.len(),
+        order.len(),
+        delta2.len(),
+        delta1.len(),
+        found.len(),
+    );
+    if status != 0 {
+        return Answer {
+            status,
+            occurrences: 0,
+            comparisons: 0,
+            ones: 0,
+        };
+    }
+    prepare::write_tables(pattern, order, delta2, delta1);
+    let counts = run::run_steps(pattern, text, order, delta2, delta1, found);
+    Answer {
+        status: 0,
+        occurrences: counts.occurrences,
+        comparisons: counts.comparisons,
+        ones: 0,
+    }
+}
