@@ -1,0 +1,5 @@
+pub mod Ascending
+pub mod Holds
+pub mod Taken
+pub mod Converted
+pub mod Paired

@@ -1,0 +1,132 @@
+-- Demand 3 of whole calls: every search that is taken is exact (`Every-search-exact`), and two that meet the same bytes are alike (`Paired`).
+-- A call that answers status 0 has status 0, and then its outcome says what it answers and leaves; the steps do the rest.
+use mathlib.Core.Bool.{Bool}
+use mathlib.Core.List.{List, [], _∷_, _++_, map}
+use mathlib.Core.Path.{_≡_, refl, sym, _∙_, ap}
+use Prim.Native.Nat.{ℕ, zero, suc, _+_, _≤_, _<_}
+use native.Mathlib.Omega.{arith}
+use lib.Dec.{eqb}
+use lib.ListN.{length, getD}
+use Rattle.answers.proofs.Fronts.{in-front-take}
+use Rattle.answers.proofs.Refusals.{done-none, pattern-within}
+use Rattle.answers.specs.Answers.{status-only, if-done}
+use Rattle.answers.specs.Buffers.{in-front}
+use Rattle.answers.specs.Refusals.{pattern-refusal, text-refusal, buffer-refusal}
+use Rattle.answers.specs.declared.Answer.{Answer}
+use Rattle.tables.specs.Prepare.{table-refusals}
+use Rattle.tables.specs.Sets.{byte}
+use Rattle.tables.specs.Tables.{period}
+use Rattle.matcher.proofs.Bound.{few-comparisons}
+use Rattle.matcher.proofs.Decide.{same-texts}
+use Rattle.matcher.specs.Occurrences.{occurrences}
+use Rattle.matcher.specs.Promises.{Few-comparisons, bound}
+use Rattle.matcher.specs.Search.{search-status, search-answer, found-left}
+use Rattle.matcher.specs.Steps.{comparisons}
+use Rattle.converter.proofs.Ascending.{passing}
+use Rattle.converter.proofs.Holds.{length-frames, holds-of, holds-listed}
+use Rattle.converter.proofs.Taken.{taken}
+use Rattle.converter.specs.Convert.{convert-answer}
+use Rattle.converter.specs.Frames.{hold, frames}
+use Rattle.converter.specs.Ones.{ones-of}
+use Rattle.converter.specs.Paired.{Call, Converts, Taken, Search, by-search, by-convert, found-by, holds-by, holds-from, frames-held, All-bytes, Every-search-exact, Paired}
+
+-- the positions of the holds are those that pass, for a test that tells which frames are holds
+holds-from-passing :
+    (i : ℕ) (fs : List ℕ) (test : ℕ → Bool) → ((k j : ℕ) → j ≡ i + k → k < length fs → test j ≡ eqb (getD fs k 0) hold) →
+    holds-from i fs ≡ passing (length fs) i test
+unfolding holds-from passing
+holds-from-passing i [] test h = refl
+holds-from-passing i (f ∷ later) test h =
+    rw (h 0 i (omega arith) (omega arith), holds-from-passing (suc i) later test (λ k j e u. h (suc k) j (omega arith) (omega arith)))
+
+-- a call that answers status 0 has status 0
+done-only : (s : ℕ) (a r : Answer) → r ≡ if-done s a (status-only s) → r .status ≡ 0 → s ≡ 0
+unfolding if-done
+done-only zero a r h e = refl
+done-only (suc s) a r h e = absurd (omega (arith, ap (λ (x : Answer). x .status) h))
+
+search-nonempty : (m n order delta2 delta1 found : ℕ) → search-status m n order delta2 delta1 found ≡ 0 → 1 ≤ m
+unfolding search-status table-refusals
+search-nonempty m n o d2 d1 e h =
+    let (pattern, rest) = done-none (pattern-refusal m ∷ text-refusal n ∷ table-refusals m o d2 d1 ++ (buffer-refusal e n ∷ [])) (omega arith) h in
+    pattern-within m pattern .0
+
+-- what a search that is taken gives
+record Worked (w t : List ℕ) (c : Call) : Type 0 where
+  nonempty : 1 ≤ length w
+  occurrences-counted : c .answer .occurrences ≡ length (occurrences w t)
+  comparisons-counted : c .answer .comparisons ≡ length (comparisons w t)
+  occurrences-left : c .left .found ≡ in-front (occurrences w t) (c .lent .found)
+
+module _ {w t : List ℕ} {c : Call} where
+  -- from a call's status, its answer, whatever ones that has, and its buffer of occurrences
+  worked :
+      (s ones : ℕ) → (s ≡ 0 → 1 ≤ length w) →
+      c .answer
+      ≡ if-done s
+      (record { status = 0; occurrences = length (occurrences w t); comparisons = length (comparisons w t); ones = ones })
+      (status-only s) →
+      c .left .found ≡ found-left s w t (c .lent .found) → Taken c → Worked w t c
+  unfolding if-done found-left
+  worked s ones limits answer left e =
+      let done = done-only s _ _ answer e in
+      let answered = rw done at answer in
+      record {
+        nonempty = limits done;
+        occurrences-counted = ap (λ (x : Answer). x .occurrences) answered;
+        comparisons-counted = ap (λ (x : Answer). x .comparisons) answered;
+        occurrences-left = rw done at left;
+      }
+
+  search-worked : {q : ℕ} → Search q w t c → Taken c → Worked w t c
+  unfolding search-answer convert-answer
+  search-worked (by-search h) e = worked _ 0 (search-nonempty _ _ _ _ _ _) (h .answer) (h .occurrences-left) e
+  search-worked (by-convert h) e =
+      worked _ (ones-of t) (λ done. omega (arith, taken _ _ _ _ _ _ _ _ done .limits .hold)) (h .answer) (h .occurrences-left) e
+
+  -- as many entries as are counted, in front of what the buffer held, are the occurrences
+  found-right : Worked w t c → found-by c ≡ occurrences w t
+  unfolding found-by
+  found-right h =
+      rw (h .occurrences-left) (in-front-take (occurrences w t) (c .lent .found) (c .answer .occurrences) (sym (h .occurrences-counted)))
+
+  few : Worked w t c → c .answer .comparisons ≤ bound (length w) (length t) (c .answer .occurrences) (period w)
+  unfolding comparisons occurrences Few-comparisons
+  few h = rw (h .occurrences-counted, h .comparisons-counted) (few-comparisons (byte t) (length t) w (h .nonempty))
+
+  frames-right : {q : ℕ} → Converts q w t c → Taken c → All-bytes t → frames-held (length t) c ≡ map (λ b. b + q) (occurrences w t)
+  unfolding if-done frames-held holds-of convert-answer
+  frames-right {q} h e bytes =
+      let done = done-only _ _ _ (h .answer) e in
+      let inside : q < length w = taken _ _ _ _ _ _ _ _ done .limits .hold in
+      rw (h .frames-left, done, in-front-take (frames q w t) (c .lent .frames) (length t) (length-frames q w t))
+      (holds-from-passing 0 (frames q w t) (λ i. eqb (getD (frames q w t) i 0) hold)
+      (λ k j at u. let at' : j ≡ k = omega arith in rw at')
+      ∙ holds-listed q w t inside bytes)
+
+pub every-search-exact : Every-search-exact
+unfolding Every-search-exact holds-by
+every-search-exact q w t c s e =
+    let h = search-worked s e in
+    record {
+      occurrences-found = found-right h;
+      occurrences-counted = h .occurrences-counted;
+      comparisons-counted = h .comparisons-counted;
+      few = few h;
+      frames-exact = λ converts bytes. rw (found-right h) (frames-right converts e bytes);
+    }
+
+pub paired : Paired
+unfolding Paired Every-search-exact holds-by
+paired q w t u c d s e s' e' l same =
+    let x = every-search-exact q w t c s e in
+    let y = every-search-exact q w u d s' e' in
+    let (compared, listed) = same-texts w t u (search-worked s e .nonempty) l same in
+    let found : found-by d ≡ found-by c = rw (x .occurrences-found, y .occurrences-found) listed in
+    record {
+      same-comparisons = compared;
+      same-occurrences = found;
+      same-holds = rw found;
+      same-frames = λ h b h' b'. y .frames-exact h' b' ∙ rw found (sym (x .frames-exact h b));
+      same-count = rw (x .comparisons-counted, y .comparisons-counted, compared);
+    }

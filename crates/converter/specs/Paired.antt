@@ -1,0 +1,107 @@
+-- Demand 3 of whole calls (document 01, "The steps"): what every search that is taken answers and leaves, and what two of them share.
+-- A search is a call of `search` or of `convert`, whatever its contract allows. These are definitions.
+use mathlib.Core.Bool.{cond}
+use mathlib.Core.List.{List, [], _∷_, map}
+use mathlib.Core.Path.{_≡_}
+use Prim.Native.Nat.{ℕ, suc, _+_, _≤_, _<_}
+use lib.Dec.{eqb}
+use lib.IntN.{ℤ}
+use lib.ListN.{length, take}
+use Rattle.answers.specs.declared.Answer.{Answer}
+use Rattle.tables.specs.Sets.{byte}
+use Rattle.tables.specs.Tables.{period}
+use Rattle.matcher.specs.Occurrences.{occurrences}
+use Rattle.matcher.specs.Promises.{Same-at, bound}
+use Rattle.matcher.specs.Search.{Search-outcome}
+use Rattle.matcher.specs.Steps.{comparisons}
+use Rattle.converter.specs.Convert.{Convert-outcome}
+use Rattle.converter.specs.Frames.{hold}
+
+-- the caller's buffers (lent buffers); `search` is lent no frames, and says nothing of these
+pub record Buffers : Type 0 where
+  pub order : List ℤ
+  pub delta2 : List ℕ
+  pub delta1 : List ℕ
+  pub found : List ℕ
+  pub frames : List ℕ
+
+-- a call: the buffers that it is lent, what is in them at its exit, and its answer
+pub record Call : Type 0 where
+  pub lent : Buffers
+  pub left : Buffers
+  pub answer : Answer
+
+-- the contract of `search` allows this call for the pattern (motif) w and the text (chain) t
+abbrev pub Searches : (w t : List ℕ) → Call → Type 0
+Searches w t c =
+    let x = c .lent in
+    let x' = c .left in
+    Search-outcome w t (x .order) (x' .order) (x .delta2) (x' .delta2) (x .delta1) (x' .delta1) (x .found) (x' .found) (c .answer)
+
+-- the contract of `convert` allows this call for w, t and the hold offset (hold place) q
+abbrev pub Converts : (q : ℕ) → (w t : List ℕ) → Call → Type 0
+Converts q w t c =
+    let x = c .lent in
+    let x' = c .left in
+    Convert-outcome
+    q w t (x .order) (x' .order) (x .delta2) (x' .delta2) (x .delta1) (x' .delta1) (x .found) (x' .found) (x .frames) (x' .frames) (c .answer)
+
+-- the call is taken
+abbrev pub Taken : Call → Type 0
+Taken c = c .answer .status ≡ 0
+
+-- a search for w in t with the hold offset q: `search` takes no q, and so is a search with any
+pub data Search (q : ℕ) (w t : List ℕ) (c : Call) : Type 0 where
+  by-search : Searches w t c → Search q w t c
+  by-convert : Converts q w t c → Search q w t c
+
+-- the occurrences (finds) of a search: the h entries that it leaves for them
+unfoldable pub found-by : Call → List ℕ
+found-by c = take (c .answer .occurrences) (c .left .found)
+
+-- its holds: the positions b + q, in the order of its occurrences b
+unfoldable pub holds-by : (q : ℕ) → Call → List ℕ
+holds-by q c = map (λ b. b + q) (found-by c)
+
+-- the positions, counted from i, where frames are holds
+unfoldable pub holds-from : (i : ℕ) → (frames : List ℕ) → List ℕ
+holds-from i [] = []
+holds-from i (f ∷ later) = cond (eqb f hold) (i ∷ holds-from (suc i) later) (holds-from (suc i) later)
+
+-- the positions where the n frames of a conversion are holds
+unfoldable pub frames-held : (n : ℕ) → Call → List ℕ
+frames-held n c = holds-from 0 (take n (c .left .frames))
+
+-- each entry is a byte (card), as in every slice of u8
+abbrev pub All-bytes : List ℕ → Type 0
+All-bytes t = (i : ℕ) → byte t i < 256
+
+-- what a search answers and leaves: the occurrences by meaning, and their number h; the number of comparisons (looks) that the steps make,
+-- which keeps the bound; and after a conversion just its holds are holds among its n frames
+pub record Exact (q : ℕ) (w t : List ℕ) (c : Call) : Type 0 where
+  pub occurrences-found : found-by c ≡ occurrences w t
+  pub occurrences-counted : c .answer .occurrences ≡ length (occurrences w t)
+  pub comparisons-counted : c .answer .comparisons ≡ length (comparisons w t)
+  pub few : c .answer .comparisons ≤ bound (length w) (length t) (c .answer .occurrences) (period w)
+  pub frames-exact : Converts q w t c → All-bytes t → frames-held (length t) c ≡ holds-by q c
+
+-- demand 3: this is so of every search that is taken
+unfoldable pub Every-search-exact : Type 0
+Every-search-exact = (q : ℕ) (w t : List ℕ) (c : Call) → Search q w t c → Taken c → Exact q w t c
+
+-- what a search c in t and a search d in u share: the comparisons that the steps make, in their order, the occurrences, the holds
+-- (of two conversions those among the frames too), and the count of comparisons that is answered
+pub record Shared (q : ℕ) (w t u : List ℕ) (c d : Call) : Type 0 where
+  pub same-comparisons : comparisons w u ≡ comparisons w t
+  pub same-occurrences : found-by d ≡ found-by c
+  pub same-holds : holds-by q d ≡ holds-by q c
+  pub same-frames : Converts q w t c → All-bytes t → Converts q w u d → All-bytes u → frames-held (length u) d ≡ frames-held (length t) c
+  pub same-count : d .answer .comparisons ≡ c .answer .comparisons
+
+-- demand 3: so do any two searches, both taken, for one pattern and one hold offset, in texts of equal length that have the same byte
+-- at every position where the first search compares
+unfoldable pub Paired : Type 0
+Paired =
+    (q : ℕ) (w t u : List ℕ) (c d : Call) → Search q w t c → Taken c → Search q w u d → Taken d →
+    length u ≡ length t → Same-at (comparisons w t) (byte t) (byte u) →
+    Shared q w t u c d
