@@ -1,0 +1,99 @@
+-- `report::report_taken` meets its contract: the conversion is done, and what it leaves in front of its buffers is what is reported.
+-- Assumes nothing.
+use native.Mathlib.Omega.{arith}
+use borrow.Author.Needs.{needs}
+use Rattle.converter.proofs.Holds.{length-frames}
+use Rattle.report.proofs.Converted.{Converted, converted, report-of}
+use Rattle.report.proofs.report_taken.Statement.{statement}
+use Rattle.report.proofs.report_taken.Tie as tie
+
+slice-aggregate-convert : tie.Need-slice-aggregate-convert
+slice-aggregate-convert c = search needs
+
+slice-aggregate-convert-2 : tie.Need-slice-aggregate-convert-2
+slice-aggregate-convert-2 c = search needs
+
+slice-aggregate-convert-3 : tie.Need-slice-aggregate-convert-3
+slice-aggregate-convert-3 c = search needs
+
+slice-aggregate-convert-4 : tie.Need-slice-aggregate-convert-4
+slice-aggregate-convert-4 c = search needs
+
+slice-aggregate-convert-5 : tie.Need-slice-aggregate-convert-5
+slice-aggregate-convert-5 c = search needs
+
+convert-requires : tie.Need-convert-requires
+convert-requires c κs = search needs
+
+-- what the conversion leaves
+left : (c : tie.After-convert)
+    → let args = c .before .before .before .before .before .before .before .before .before .args in
+    Converted
+    (args .hold) (args .pattern .now) (args .text .now)
+    (c .convert .last .1 .1 .1 .1 .1 .1 .0) (c .convert .last .1 .1 .1 .1 .1 .1 .1 .0) (c .convert .result)
+left c =
+    let c₅ = c .before in
+    let c₄ = c₅ .before in
+    let c₃ = c₄ .before in
+    let c₂ = c₃ .before in
+    let c₁ = c₂ .before in
+    converted (c .convert .ensures) (omega (arith, c₁))
+    (slice-aggregate-convert c₁)
+    (slice-aggregate-convert-2 c₂)
+    (slice-aggregate-convert-3 c₃)
+    (slice-aggregate-convert-4 c₄)
+    (slice-aggregate-convert-5 c₅)
+
+cast-h : tie.Need-cast-h
+cast-h c = search needs
+
+array-share-prefix-found : tie.Need-array-share-prefix-found
+array-share-prefix-found c = omega (arith, left (c .before .before .before .before .before .before))
+
+slice-aggregate-write-done : tie.Need-slice-aggregate-write-done
+slice-aggregate-write-done c =
+    let l = left (c .before .before .before .before .before .before .before) in
+    rw (l .occurrences-there) (l .occurrence-count)
+
+array-share-prefix-frames : tie.Need-array-share-prefix-frames
+array-share-prefix-frames c = search needs
+
+slice-aggregate-write-done-2 : tie.Need-slice-aggregate-write-done-2
+slice-aggregate-write-done-2 c =
+    let l = left (c .before .before .before .before .before .before .before .before) in
+    rw (l .frames-there, length-frames)
+
+write-done-requires : tie.Need-write-done-requires
+write-done-requires c κs =
+    let at = c .before in
+    let found-size = slice-aggregate-write-done (at .before) in
+    let frames-size = slice-aggregate-write-done-2 at in
+    let c₀ = at .before .before .before .before .before .before .before .before in
+    omega (arith, left c₀, c₀ .before)
+
+same-length : tie.Need-same-length
+same-length c = search needs
+
+returns : tie.Need-returns
+returns c =
+    let done = c .before .before in
+    rw (← report-of (left (done .before .before .before .before .before .before .before .before .before .before))) (done .write-done .ensures)
+
+pub report-taken-spec : {M : Type 1} → statement M
+report-taken-spec =
+    tie.close
+    (tie.spec
+    slice-aggregate-convert
+    slice-aggregate-convert-2
+    slice-aggregate-convert-3
+    slice-aggregate-convert-4
+    slice-aggregate-convert-5
+    convert-requires
+    cast-h
+    array-share-prefix-found
+    slice-aggregate-write-done
+    array-share-prefix-frames
+    slice-aggregate-write-done-2
+    write-done-requires
+    same-length
+    returns)
