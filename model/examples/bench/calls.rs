@@ -1,0 +1,155 @@
+//! Each call but preparing and searching on the largest job, beside its plain Rust version.
+
+use std::hint::black_box;
+
+use ruffarmoire_model::answers::{Answer, ReadAnswer, ReportAnswer, WriteAnswer};
+use ruffarmoire_model::gen::{Random, Shape};
+use ruffarmoire_model::job::{self, Job};
+use ruffarmoire_model::{baseline, calls, convert, seek};
+
+use crate::table_buffers::TableBuffers;
+use crate::timing::{medians, Timed};
+use crate::{converter_library, job_library, report_library};
+
+pub fn run() {
+    let job = Shape::AnyBytes.job(&mut Random::seeded(31), 128, 16_384);
+    let file = job::write(&job);
+    println!(
+        "The largest job: m {}, n {}, random bytes, a file of {} bytes. µs a call.",
+        job.pattern.len(),
+        job.text.len(),
+        file.len()
+    );
+    println!(
+        "{:12} {:>9} {:>9} {:>12}",
+        "", "Rattle", "Rust", "Rattle/Rust"
+    );
+    print(
+        "read_job",
+        [
+            reading(&job, &file, job_library::read_job),
+            reading(&job, &file, baseline::job::read_job),
+        ],
+    );
+    print(
+        "write_job",
+        [
+            writing(&job, &file, job_library::write_job),
+            writing(&job, &file, baseline::job::write_job),
+        ],
+    );
+    print(
+        "convert",
+        [
+            converting(&job, converter_library::convert),
+            converting(&job, baseline::converter::convert),
+        ],
+    );
+    print(
+        "count_ones",
+        [
+            counting(&job, converter_library::count_ones),
+            counting(&job, baseline::converter::count_ones),
+        ],
+    );
+    print(
+        "seek_report",
+        [
+            reporting(&file, report_library::seek_report),
+            reporting(&file, baseline::report::seek_report),
+        ],
+    );
+}
+
+fn print(name: &str, both: [Timed; 2]) {
+    let [rattle, rust] = medians(both);
+    println!("{name:12} {rattle:9.2} {rust:9.2} {:12.2}", rattle / rust);
+}
+
+type Read = fn(&[u8], &mut [u8], &mut [u8]) -> ReadAnswer;
+
+fn reading<'a>(job: &'a Job, file: &'a [u8], call: Read) -> Timed<'a> {
+    let mut pattern = vec![0; job.pattern.len()];
+    let mut text = vec![0; job.text.len()];
+    assert_eq!(call(file, &mut pattern, &mut text).answer.status, 0);
+    assert_eq!((&pattern, &text), (&job.pattern, &job.text));
+    Timed::new(1, move || {
+        black_box(call(black_box(file), &mut pattern, &mut text));
+        black_box((&mut pattern, &mut text));
+    })
+}
+
+type Write = fn(u32, &[u8], &[u8], &mut [u8]) -> WriteAnswer;
+
+fn writing<'a>(job: &'a Job, file: &'a [u8], call: Write) -> Timed<'a> {
+    let hold = job.hold as u32;
+    let mut written = vec![0; file.len()];
+    let answer = call(hold, &job.pattern, &job.text, &mut written).answer;
+    assert_eq!((answer.status, &written[..]), (0, file));
+    Timed::new(1, move || {
+        let (pattern, text) = black_box((&job.pattern, &job.text));
+        black_box(call(hold, pattern, text, &mut written));
+        black_box(&mut written);
+    })
+}
+
+type Convert =
+    fn(u32, &[u8], &[u8], &mut [i16], &mut [u16], &mut [u16], &mut [u16], &mut [u16]) -> Answer;
+
+/// The buffers that a conversion is lent.
+struct ConvertBuffers {
+    tables: TableBuffers,
+    found: Vec<u16>,
+    frames: Vec<u16>,
+}
+
+fn converting(job: &Job, call: Convert) -> Timed<'_> {
+    let n = job.text.len();
+    let mut lent = ConvertBuffers {
+        tables: TableBuffers::needed(job.pattern.len()),
+        found: vec![0; n],
+        frames: vec![0; n],
+    };
+    let convert_to = move |lent: &mut ConvertBuffers| {
+        let (pattern, text) = black_box((&job.pattern, &job.text));
+        call(
+            job.hold as u32,
+            pattern,
+            text,
+            &mut lent.tables.order,
+            &mut lent.tables.delta2,
+            &mut lent.tables.delta1,
+            &mut lent.found,
+            &mut lent.frames,
+        )
+    };
+    assert_eq!(convert_to(&mut lent).status, 0);
+    let frames = convert::frames(&job.pattern, job.hold, &job.text);
+    assert_eq!(lent.frames, frames);
+    Timed::new(1, move || {
+        black_box(convert_to(&mut lent));
+        black_box(&mut lent);
+    })
+}
+
+type Count = fn(&[u8]) -> Answer;
+
+fn counting(job: &Job, call: Count) -> Timed<'_> {
+    assert_eq!(call(&job.text), calls::count_ones(&job.text));
+    Timed::new(1, move || {
+        black_box(call(black_box(&job.text)));
+    })
+}
+
+type Report = fn(&[u8], &mut [u8]) -> ReportAnswer;
+
+fn reporting(file: &[u8], call: Report) -> Timed<'_> {
+    let expected = seek::seek(file);
+    let mut out = vec![0; expected.len()];
+    assert_eq!(call(file, &mut out).answer.status, 0);
+    assert_eq!(out, expected.as_bytes());
+    Timed::new(1, move || {
+        black_box(call(black_box(file), &mut out));
+        black_box(&mut out);
+    })
+}

@@ -1,0 +1,126 @@
+//! Preparing patterns, beside a plain fill of as many entries as Δ1 has, beside the same algorithm
+//! in plain Rust, and beside document 002's listings in plain Rust.
+
+use std::hint::black_box;
+
+use ruffarmoire_model::answers::Answer;
+use ruffarmoire_model::baseline::tables::{prepare, prepare_as_listed};
+use ruffarmoire_model::gen::Random;
+
+use crate::prepare_library;
+use crate::table_buffers::TableBuffers;
+use crate::timing::{medians, Timed};
+
+/// Patterns of each kind, over which a time is the mean.
+const PATTERNS: usize = 8;
+
+pub fn run() {
+    println!("prepare: µs a pattern, each time over {PATTERNS} patterns of a kind.");
+    println!(
+        "{:>4} {:22} {:>8} {:>8} {:>8} {:>9} {:>12} {:>12} {:>16}",
+        "m",
+        "pattern",
+        "fill",
+        "Rattle",
+        "Rust",
+        "listings",
+        "Rattle/fill",
+        "Rattle/Rust",
+        "Rattle/listings"
+    );
+    let mut random = Random::seeded(32);
+    for m in [1, 2, 8, 32, 128] {
+        for kind in KINDS {
+            let patterns: Vec<Vec<u8>> = (0..PATTERNS)
+                .map(|_| kind.pattern(&mut random, m))
+                .collect();
+            let mut filled = vec![0; 256 * m];
+            let fill = Timed::new(PATTERNS, || {
+                for _ in 0..PATTERNS {
+                    black_box(&mut filled[..]).fill(black_box(m as u16));
+                }
+                black_box(&mut filled);
+            });
+            let [fill, rattle, rust, listings] = medians([
+                fill,
+                timed(&patterns, prepare_library::prepare),
+                timed(&patterns, prepare),
+                timed(&patterns, prepare_as_listed),
+            ]);
+            println!(
+                "{m:4} {:22} {fill:8.3} {rattle:8.3} {rust:8.3} {listings:9.3} {:12.2} {:12.2} {:16.3}",
+                kind.name(),
+                rattle / fill,
+                rattle / rust,
+                rattle / listings
+            );
+        }
+    }
+}
+
+/// How the bytes of a pattern are chosen.
+#[derive(Clone, Copy)]
+enum Kind {
+    /// At random, over so many different bytes.
+    Random(usize),
+    /// A random quarter again and again.
+    Periodic,
+    AllEqual,
+}
+
+const KINDS: [Kind; 7] = [
+    Kind::Random(2),
+    Kind::Random(5),
+    Kind::Random(26),
+    Kind::Random(48),
+    Kind::Random(256),
+    Kind::Periodic,
+    Kind::AllEqual,
+];
+
+impl Kind {
+    fn name(self) -> String {
+        match self {
+            Kind::Random(bytes) => format!("random over {bytes}"),
+            Kind::Periodic => "periodic".to_string(),
+            Kind::AllEqual => "all equal".to_string(),
+        }
+    }
+
+    fn pattern(self, random: &mut Random, m: usize) -> Vec<u8> {
+        match self {
+            Kind::Random(bytes) => (0..m).map(|_| random.below(bytes) as u8).collect(),
+            Kind::Periodic => {
+                let root: Vec<u8> = (0..m.div_ceil(4)).map(|_| random.below(26) as u8).collect();
+                root.iter().copied().cycle().take(m).collect()
+            }
+            Kind::AllEqual => vec![random.byte(); m],
+        }
+    }
+}
+
+/// A call that prepares a pattern.
+pub type Prepare = fn(&[u8], &mut [i16], &mut [u16], &mut [u16]) -> Answer;
+
+/// Preparing each of some patterns of one length, timed.
+pub fn timed(patterns: &[Vec<u8>], call: Prepare) -> Timed<'_> {
+    let m = patterns[0].len();
+    let mut tables = TableBuffers::needed(m);
+    let mut expected = tables.clone();
+    for pattern in patterns {
+        let prepare = |call: Prepare, tables: &mut TableBuffers| {
+            let (order, delta2) = (&mut tables.order, &mut tables.delta2);
+            assert_eq!(call(pattern, order, delta2, &mut tables.delta1).status, 0);
+        };
+        prepare(call, &mut tables);
+        prepare(prepare_as_listed, &mut expected);
+        assert!(tables == expected, "the tables of {pattern:?}");
+    }
+    Timed::new(patterns.len(), move || {
+        for pattern in patterns {
+            let (order, delta2) = (&mut tables.order, &mut tables.delta2);
+            black_box(call(black_box(pattern), order, delta2, &mut tables.delta1));
+            black_box(&mut tables);
+        }
+    })
+}

@@ -1,0 +1,196 @@
+//! Searching, beside the same algorithm in plain Rust, beside the C library's `memmem` in a loop
+//! that finds overlapping occurrences, and beside a plain scan. The run of the steps alone is what
+//! a whole search takes beyond preparing its pattern.
+
+use std::hint::black_box;
+
+use ruffarmoire_model::answers::Answer;
+use ruffarmoire_model::baseline::{matcher, tables};
+use ruffarmoire_model::gen::Random;
+
+use crate::prepare;
+use crate::table_buffers::TableBuffers;
+use crate::timing::{medians, Timed};
+use crate::{matcher_library, prepare_library};
+
+/// The bytes of each text.
+const N: usize = 16_384;
+
+/// Patterns and texts of each kind, over which a time is the mean.
+const PAIRS: usize = 4;
+
+pub fn run() {
+    println!(
+        "search: µs a search in a text of {N} bytes, each time over {PAIRS} patterns and texts of a kind."
+    );
+    println!("{:29} | {:76} | tables apart", "", "whole searches");
+    println!(
+        "{:>4} {:24} | {:>8} {:>8} {:>8} {:>8} {:>12} {:>14} {:>12} | {:>8} {:>8} {:>12} {:>14}",
+        "m",
+        "text",
+        "Rattle",
+        "Rust",
+        "memmem",
+        "scan",
+        "Rattle/Rust",
+        "Rattle/memmem",
+        "Rattle/scan",
+        "Rattle",
+        "Rust",
+        "Rattle/Rust",
+        "ns/comparison"
+    );
+    let mut random = Random::seeded(33);
+    for kind in KINDS {
+        for &m in kind.lengths() {
+            let pairs: Vec<Pair> = (0..PAIRS).map(|_| kind.pair(&mut random, m)).collect();
+            print(kind, m, &pairs);
+        }
+    }
+}
+
+/// A pattern and a text.
+type Pair = (Vec<u8>, Vec<u8>);
+
+fn print(kind: Kind, m: usize, pairs: &[Pair]) {
+    let patterns: Vec<Vec<u8>> = pairs.iter().map(|(pattern, _)| pattern.clone()).collect();
+    let [rattle, rust, memmem, scan, rattle_tables, rust_tables] = medians([
+        searching(pairs, matcher_library::search),
+        searching(pairs, matcher::search),
+        finding(pairs, matcher::occurrences_by_memmem),
+        finding(pairs, matcher::occurrences_by_scan),
+        prepare::timed(&patterns, prepare_library::prepare),
+        prepare::timed(&patterns, tables::prepare),
+    ]);
+    let (rattle_apart, rust_apart) = (rattle - rattle_tables, rust - rust_tables);
+    let comparisons = comparisons(pairs) as f64 / PAIRS as f64;
+    println!(
+        "{m:4} {:24} | {rattle:8.1} {rust:8.1} {memmem:8.1} {scan:8.1} {:12.2} {:14.2} {:12.2} | \
+         {rattle_apart:8.1} {rust_apart:8.1} {:12.2} {:14.2}",
+        kind.name(),
+        rattle / rust,
+        rattle / memmem,
+        rattle / scan,
+        rattle_apart / rust_apart,
+        rattle_apart * 1e3 / comparisons,
+    );
+}
+
+/// How a pattern and a text are chosen.
+#[derive(Clone, Copy)]
+enum Kind {
+    /// Both at random, over so many different bytes.
+    Random(usize),
+    /// One byte throughout, in both.
+    AllEqual,
+    /// A root of so many random bytes again and again, in both.
+    Periodic(usize),
+    /// The same, with another byte in the pattern's middle, so that it does not occur.
+    Spoiled(usize),
+}
+
+const KINDS: [Kind; 8] = [
+    Kind::Random(2),
+    Kind::Random(5),
+    Kind::Random(26),
+    Kind::Random(256),
+    Kind::AllEqual,
+    Kind::Periodic(4),
+    Kind::Periodic(24),
+    Kind::Spoiled(4),
+];
+
+impl Kind {
+    fn name(self) -> String {
+        match self {
+            Kind::Random(bytes) => format!("random over {bytes}"),
+            Kind::AllEqual => "all equal".to_string(),
+            Kind::Periodic(period) => format!("period {period}"),
+            Kind::Spoiled(period) => format!("period {period}, no match"),
+        }
+    }
+
+    fn lengths(self) -> &'static [usize] {
+        match self {
+            Kind::Random(_) | Kind::AllEqual => &[2, 8, 32, 128],
+            _ => &[8, 32, 128],
+        }
+    }
+
+    fn pair(self, random: &mut Random, m: usize) -> Pair {
+        let mut over = |bytes: usize, length: usize| -> Vec<u8> {
+            (0..length).map(|_| random.below(bytes) as u8).collect()
+        };
+        match self {
+            Kind::Random(bytes) => (over(bytes, m), over(bytes, N)),
+            Kind::AllEqual => (vec![0x18; m], vec![0x18; N]),
+            Kind::Periodic(period) | Kind::Spoiled(period) => {
+                let root = over(26, period);
+                let net = |length: usize| root.iter().copied().cycle().take(length);
+                let mut pattern: Vec<u8> = net(m).collect();
+                if matches!(self, Kind::Spoiled(_)) {
+                    pattern[m / 2] = 0xFF;
+                }
+                (pattern, net(N).collect())
+            }
+        }
+    }
+}
+
+/// A call that searches.
+type Search = fn(&[u8], &[u8], &mut [i16], &mut [u16], &mut [u16], &mut [u16]) -> Answer;
+
+/// A call that finds occurrences and does nothing else.
+type Find = fn(&[u8], &[u8], &mut [u16]) -> usize;
+
+/// A search's answer, with its occurrences in the buffer.
+fn search(call: Search, pair: &Pair, tables: &mut TableBuffers, found: &mut [u16]) -> Answer {
+    let (pattern, text) = black_box(pair);
+    let (order, delta2) = (&mut tables.order, &mut tables.delta2);
+    let answer = call(pattern, text, order, delta2, &mut tables.delta1, found);
+    black_box((answer, tables, found)).0
+}
+
+fn searching(pairs: &[Pair], call: Search) -> Timed<'_> {
+    let mut tables = TableBuffers::needed(pairs[0].0.len());
+    let (mut found, mut expected) = (vec![0; N], vec![0; N]);
+    for pair in pairs {
+        let answer = search(call, pair, &mut tables, &mut found);
+        let other = search(matcher::search, pair, &mut tables, &mut expected);
+        let h = answer.occurrences as usize;
+        assert_eq!((answer, &found[..h]), (other, &expected[..h]));
+    }
+    Timed::new(pairs.len(), move || {
+        for pair in pairs {
+            search(call, pair, &mut tables, &mut found);
+        }
+    })
+}
+
+fn finding(pairs: &[Pair], call: Find) -> Timed<'_> {
+    let mut tables = TableBuffers::needed(pairs[0].0.len());
+    let (mut found, mut expected) = (vec![0; N], vec![0; N]);
+    for pair in pairs {
+        let count = call(&pair.0, &pair.1, &mut found);
+        let answer = search(matcher::search, pair, &mut tables, &mut expected);
+        assert_eq!(count, answer.occurrences as usize);
+        assert_eq!(found[..count], expected[..count]);
+    }
+    Timed::new(pairs.len(), move || {
+        for pair in pairs {
+            let (pattern, text) = black_box(pair);
+            black_box(call(pattern, text, &mut found));
+            black_box(&mut found);
+        }
+    })
+}
+
+/// The comparisons of all these searches.
+fn comparisons(pairs: &[Pair]) -> u32 {
+    let mut tables = TableBuffers::needed(pairs[0].0.len());
+    let mut found = vec![0; N];
+    pairs
+        .iter()
+        .map(|pair| search(matcher_library::search, pair, &mut tables, &mut found).comparisons)
+        .sum()
+}

@@ -1,0 +1,128 @@
+//! Medians of times that are taken turn by turn.
+
+use std::ffi::{c_int, c_long};
+use std::time::Instant;
+
+/// Turns in which everything is timed once.
+const TURNS: usize = 151;
+
+/// Turns before those that count.
+const WARM_UP: usize = 10;
+
+/// The least time of a sample, in seconds: what is faster is run several times for one.
+const SAMPLE: f64 = 60e-6;
+
+/// What takes longer than this for a sample, in seconds, is timed in fewer turns.
+const LONG_SAMPLE: f64 = 4e-3;
+
+/// The fewest samples of anything.
+const FEWEST: usize = 7;
+
+/// Something that is timed: it does a number of calls.
+pub struct Timed<'a> {
+    calls: usize,
+    clock: Clock,
+    run: Box<dyn FnMut() + 'a>,
+}
+
+#[derive(Clone, Copy)]
+enum Clock {
+    /// The time that this thread ran, without the time in which others had its processor.
+    Thread,
+    /// The time that went by.
+    Wall,
+}
+
+impl<'a> Timed<'a> {
+    /// Calls in this thread.
+    pub fn new(calls: usize, run: impl FnMut() + 'a) -> Timed<'a> {
+        Timed {
+            calls,
+            clock: Clock::Thread,
+            run: Box::new(run),
+        }
+    }
+
+    /// A run of another program.
+    pub fn program(run: impl FnMut() + 'a) -> Timed<'a> {
+        Timed {
+            calls: 1,
+            clock: Clock::Wall,
+            run: Box::new(run),
+        }
+    }
+
+    fn seconds(&mut self, runs: usize) -> f64 {
+        match self.clock {
+            Clock::Thread => {
+                let start = thread_seconds();
+                self.run(runs);
+                thread_seconds() - start
+            }
+            Clock::Wall => {
+                let start = Instant::now();
+                self.run(runs);
+                start.elapsed().as_secs_f64()
+            }
+        }
+    }
+
+    fn run(&mut self, times: usize) {
+        for _ in 0..times {
+            (self.run)();
+        }
+    }
+}
+
+/// The seconds that this thread has run.
+fn thread_seconds() -> f64 {
+    #[repr(C)]
+    struct Time {
+        seconds: i64,
+        nanoseconds: c_long,
+    }
+    extern "C" {
+        fn clock_gettime(clock: c_int, time: *mut Time) -> c_int;
+    }
+    const THREAD_CPU_TIME: c_int = 3;
+    let mut time = Time {
+        seconds: 0,
+        nanoseconds: 0,
+    };
+    // SAFETY: the time is the caller's and has the layout that the C library's has.
+    let failed = unsafe { clock_gettime(THREAD_CPU_TIME, &mut time) };
+    assert_eq!(failed, 0, "the thread's clock is read");
+    time.seconds as f64 + time.nanoseconds as f64 * 1e-9
+}
+
+/// The median time of a call of each, in microseconds.
+pub fn medians<const N: usize>(mut all: [Timed; N]) -> [f64; N] {
+    let first: [f64; N] = std::array::from_fn(|which| {
+        all[which].seconds(1);
+        all[which].seconds(1)
+    });
+    let runs = first.map(|seconds| (SAMPLE / seconds).ceil().clamp(1.0, 1e5) as usize);
+    let most_apart = (TURNS / FEWEST) as f64;
+    let turns_apart =
+        first.map(|seconds| (seconds / LONG_SAMPLE).ceil().clamp(1.0, most_apart) as usize);
+
+    let mut samples = [const { Vec::new() }; N];
+    for turn in 0..WARM_UP + TURNS {
+        // Who goes first changes from turn to turn.
+        for place in 0..N {
+            let which = (turn + place) % N;
+            if turn < WARM_UP && first[which] > LONG_SAMPLE || turn % turns_apart[which] != 0 {
+                continue;
+            }
+            let seconds = all[which].seconds(runs[which]);
+            if turn >= WARM_UP {
+                samples[which].push(seconds / runs[which] as f64);
+            }
+        }
+    }
+    std::array::from_fn(|which| {
+        let samples = &mut samples[which];
+        samples.sort_by(f64::total_cmp);
+        samples[samples.len() / 2] * 1e6 / all[which].calls as f64
+    })
+}

@@ -1,0 +1,117 @@
+//! Refusals and answers.
+
+/// Why a call is refused.
+#[derive(Clone, Copy, Debug, PartialEq, Eq)]
+pub enum Refusal {
+    /// 1: fewer than 11 bytes, or not the length that the first line gives.
+    FileLength,
+    /// 2: a byte that is not the digit or line end due there.
+    Byte,
+    /// 3: an edition other than 01.
+    Edition,
+    /// 4: m is 0 or above 128.
+    PatternLength,
+    /// 5: q is not below m.
+    HoldOffset,
+    /// 6: n is above 16,384.
+    TextLength,
+    /// 7: a buffer is too short.
+    ShortBuffer,
+}
+
+impl Refusal {
+    /// The number of the refusal in an answer.
+    pub fn status(self) -> u32 {
+        match self {
+            Refusal::FileLength => 1,
+            Refusal::Byte => 2,
+            Refusal::Edition => 3,
+            Refusal::PatternLength => 4,
+            Refusal::HoldOffset => 5,
+            Refusal::TextLength => 6,
+            Refusal::ShortBuffer => 7,
+        }
+    }
+}
+
+/// What every call answers. What a call does not work out is 0.
+#[repr(C)]
+#[derive(Clone, Copy, Debug, Default, PartialEq, Eq)]
+pub struct Answer {
+    /// 0 for done, or the number of the refusal.
+    pub status: u32,
+    /// h, the number of occurrences.
+    pub occurrences: u32,
+    /// C, the number of comparisons.
+    pub comparisons: u32,
+    /// The ones of the text.
+    pub ones: u32,
+}
+
+/// What reading a job file answers.
+#[repr(C)]
+#[derive(Clone, Copy, Debug, Default, PartialEq, Eq)]
+pub struct ReadAnswer {
+    pub answer: Answer,
+    /// The length of the pattern.
+    pub m: u32,
+    /// The hold offset.
+    pub q: u32,
+    /// The length of the text.
+    pub n: u32,
+}
+
+/// What writing a job file answers.
+#[repr(C)]
+#[derive(Clone, Copy, Debug, Default, PartialEq, Eq)]
+pub struct WriteAnswer {
+    pub answer: Answer,
+    /// The length of the file.
+    pub bytes: u32,
+}
+
+/// What writing SEEK's report answers.
+#[repr(C)]
+#[derive(Clone, Copy, Debug, Default, PartialEq, Eq)]
+pub struct ReportAnswer {
+    pub answer: Answer,
+    /// The length of the report.
+    pub bytes: u32,
+}
+
+/// A refused answer holds the refusal and zeros elsewhere.
+impl From<Refusal> for Answer {
+    fn from(refusal: Refusal) -> Answer {
+        Answer {
+            status: refusal.status(),
+            ..Answer::default()
+        }
+    }
+}
+
+impl From<Refusal> for ReadAnswer {
+    fn from(refusal: Refusal) -> ReadAnswer {
+        ReadAnswer {
+            answer: refusal.into(),
+            ..ReadAnswer::default()
+        }
+    }
+}
+
+impl From<Refusal> for WriteAnswer {
+    fn from(refusal: Refusal) -> WriteAnswer {
+        WriteAnswer {
+            answer: refusal.into(),
+            ..WriteAnswer::default()
+        }
+    }
+}
+
+impl From<Refusal> for ReportAnswer {
+    fn from(refusal: Refusal) -> ReportAnswer {
+        ReportAnswer {
+            answer: refusal.into(),
+            ..ReportAnswer::default()
+        }
+    }
+}

@@ -1,0 +1,9 @@
+//! Plain Rust versions of the library's calls, each with the same contract, written for speed: the
+//! benchmark runs them beside the library, and the library's own tests are run on them too. The
+//! model does not use them.
+
+pub mod converter;
+pub mod job;
+pub mod matcher;
+pub mod report;
+pub mod tables;

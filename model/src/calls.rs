@@ -1,0 +1,288 @@
+//! The public calls: what each answers, and what it leaves in the caller's buffers.
+//!
+//! A call is handed the lengths of the caller's buffers. It gives its answer and, for each buffer,
+//! the entries that it puts at the front of it; entries past those keep what they held. A refused
+//! call puts no entry into any buffer.
+
+use crate::answers::{Answer, ReadAnswer, Refusal, ReportAnswer, WriteAnswer};
+use crate::job::{check_hold, check_pattern_length, check_text_length, Job};
+use crate::job::{file_length, first_line, lines};
+use crate::tables::Tables;
+use crate::{convert, job, seek, steps};
+
+/// A buffer after a call: the entries that the call puts there, and past them what it held.
+pub fn after<T: Copy>(before: &[T], front: &[T]) -> Vec<T> {
+    let mut buffer = before.to_vec();
+    buffer[..front.len()].copy_from_slice(front);
+    buffer
+}
+
+/// Refusal 7 for one buffer.
+fn check_buffer(length: usize, needed: usize) -> Result<(), Refusal> {
+    if length < needed {
+        Err(Refusal::ShortBuffer)
+    } else {
+        Ok(())
+    }
+}
+
+/// A number of an answer.
+fn count(value: usize) -> u32 {
+    u32::try_from(value).expect("the numbers of an answer are below 2^32")
+}
+
+/// What reading a job file leaves.
+#[derive(Clone, Debug, Default, PartialEq, Eq)]
+pub struct ReadOutcome {
+    pub answer: ReadAnswer,
+    pub pattern: Vec<u8>,
+    pub text: Vec<u8>,
+}
+
+/// Reads a job file into a buffer for the pattern and one for the text.
+pub fn read_job(file: &[u8], pattern_length: usize, text_length: usize) -> ReadOutcome {
+    match try_read_job(file, pattern_length, text_length) {
+        Ok(job) => ReadOutcome {
+            answer: ReadAnswer {
+                answer: Answer::default(),
+                m: count(job.pattern.len()),
+                q: count(job.hold),
+                n: count(job.text.len()),
+            },
+            pattern: job.pattern,
+            text: job.text,
+        },
+        Err(refusal) => ReadOutcome {
+            answer: refusal.into(),
+            ..ReadOutcome::default()
+        },
+    }
+}
+
+fn try_read_job(file: &[u8], pattern_length: usize, text_length: usize) -> Result<Job, Refusal> {
+    let job = job::read(file)?;
+    check_buffer(pattern_length, job.pattern.len())?;
+    check_buffer(text_length, job.text.len())?;
+    Ok(job)
+}
+
+/// What writing a job file leaves.
+#[derive(Clone, Debug, Default, PartialEq, Eq)]
+pub struct WriteOutcome {
+    pub answer: WriteAnswer,
+    pub file: Vec<u8>,
+}
+
+/// Writes a job file into a buffer.
+pub fn write_job(hold: u32, pattern: &[u8], text: &[u8], buffer_length: usize) -> WriteOutcome {
+    match try_write_job(hold, pattern, text, buffer_length) {
+        Ok(file) => WriteOutcome {
+            answer: WriteAnswer {
+                answer: Answer::default(),
+                bytes: count(file.len()),
+            },
+            file,
+        },
+        Err(refusal) => WriteOutcome {
+            answer: refusal.into(),
+            ..WriteOutcome::default()
+        },
+    }
+}
+
+fn try_write_job(
+    hold: u32,
+    pattern: &[u8],
+    text: &[u8],
+    buffer_length: usize,
+) -> Result<Vec<u8>, Refusal> {
+    let (m, n) = (pattern.len(), text.len());
+    check_pattern_length(m)?;
+    check_hold(hold as usize, m)?;
+    check_text_length(n)?;
+    check_buffer(buffer_length, file_length(m, n))?;
+    let first = first_line(1, m as u8, hold as u8, n as u16);
+    Ok([first, lines(pattern), lines(text)].concat())
+}
+
+/// The lengths of the buffers for the tables.
+#[derive(Clone, Copy, Debug)]
+pub struct TableLengths {
+    pub order: usize,
+    pub delta1: usize,
+    pub delta2: usize,
+}
+
+impl TableLengths {
+    /// The lengths that a pattern of m bytes needs.
+    pub fn needed(m: usize) -> TableLengths {
+        TableLengths {
+            order: m + 1,
+            delta1: 256 * m,
+            delta2: m + 1,
+        }
+    }
+
+    fn check(&self, m: usize) -> Result<(), Refusal> {
+        let needed = TableLengths::needed(m);
+        check_buffer(self.order, needed.order)?;
+        check_buffer(self.delta1, needed.delta1)?;
+        check_buffer(self.delta2, needed.delta2)
+    }
+}
+
+/// What preparing, searching and converting leave. A buffer that a call does not take has no
+/// entries here.
+#[derive(Clone, Debug, Default, PartialEq, Eq)]
+pub struct Outcome {
+    pub answer: Answer,
+    pub order: Vec<i16>,
+    pub delta1: Vec<usize>,
+    pub delta2: Vec<usize>,
+    pub occurrences: Vec<usize>,
+    pub frames: Vec<u16>,
+}
+
+impl From<Refusal> for Outcome {
+    fn from(refusal: Refusal) -> Outcome {
+        Outcome {
+            answer: refusal.into(),
+            ..Outcome::default()
+        }
+    }
+}
+
+impl From<Result<Outcome, Refusal>> for Outcome {
+    fn from(result: Result<Outcome, Refusal>) -> Outcome {
+        result.unwrap_or_else(Outcome::from)
+    }
+}
+
+/// Prepares a pattern: works its tables out.
+pub fn prepare(pattern: &[u8], lengths: TableLengths) -> Outcome {
+    try_prepare(pattern, lengths).into()
+}
+
+fn try_prepare(pattern: &[u8], lengths: TableLengths) -> Result<Outcome, Refusal> {
+    check_pattern_length(pattern.len())?;
+    lengths.check(pattern.len())?;
+    let tables = Tables::of(pattern);
+    Ok(Outcome {
+        order: tables.order,
+        delta1: tables.delta1,
+        delta2: tables.delta2,
+        ..Outcome::default()
+    })
+}
+
+/// Searches a text for a pattern.
+pub fn search(
+    pattern: &[u8],
+    text: &[u8],
+    lengths: TableLengths,
+    occurrences_length: usize,
+) -> Outcome {
+    try_search(pattern, text, lengths, occurrences_length).into()
+}
+
+fn try_search(
+    pattern: &[u8],
+    text: &[u8],
+    lengths: TableLengths,
+    occurrences_length: usize,
+) -> Result<Outcome, Refusal> {
+    check_pattern_length(pattern.len())?;
+    check_text_length(text.len())?;
+    lengths.check(pattern.len())?;
+    check_buffer(occurrences_length, text.len())?;
+    let tables = Tables::of(pattern);
+    let comparisons = steps::search_with(&tables, pattern, text).comparisons.len();
+    let occurrences = convert::occurrences(pattern, text);
+    Ok(Outcome {
+        answer: Answer {
+            occurrences: count(occurrences.len()),
+            comparisons: count(comparisons),
+            ..Answer::default()
+        },
+        order: tables.order,
+        delta1: tables.delta1,
+        delta2: tables.delta2,
+        occurrences,
+        frames: Vec::new(),
+    })
+}
+
+/// Converts a text to frames.
+pub fn convert(
+    hold: u32,
+    pattern: &[u8],
+    text: &[u8],
+    lengths: TableLengths,
+    occurrences_length: usize,
+    frames_length: usize,
+) -> Outcome {
+    try_convert(
+        hold,
+        pattern,
+        text,
+        lengths,
+        occurrences_length,
+        frames_length,
+    )
+    .into()
+}
+
+fn try_convert(
+    hold: u32,
+    pattern: &[u8],
+    text: &[u8],
+    lengths: TableLengths,
+    occurrences_length: usize,
+    frames_length: usize,
+) -> Result<Outcome, Refusal> {
+    check_pattern_length(pattern.len())?;
+    check_hold(hold as usize, pattern.len())?;
+    check_text_length(text.len())?;
+    check_buffer(frames_length, text.len())?;
+    let mut outcome = try_search(pattern, text, lengths, occurrences_length)?;
+    outcome.answer.ones = convert::ones(text);
+    outcome.frames = convert::frames(pattern, hold as usize, text);
+    Ok(outcome)
+}
+
+/// Counts the ones of a text.
+pub fn count_ones(text: &[u8]) -> Answer {
+    match check_text_length(text.len()) {
+        Ok(()) => Answer {
+            ones: convert::ones(text),
+            ..Answer::default()
+        },
+        Err(refusal) => refusal.into(),
+    }
+}
+
+/// What writing SEEK's report leaves.
+#[derive(Clone, Debug, Default, PartialEq, Eq)]
+pub struct ReportOutcome {
+    pub answer: ReportAnswer,
+    pub report: Vec<u8>,
+}
+
+/// Writes what SEEK prints for a file into a buffer. The file may be one that is refused: that is
+/// then in the report, and the call is done.
+pub fn seek_report(file: &[u8], buffer_length: usize) -> ReportOutcome {
+    let report = seek::seek(file).into_bytes();
+    match check_buffer(buffer_length, report.len()) {
+        Ok(()) => ReportOutcome {
+            answer: ReportAnswer {
+                answer: Answer::default(),
+                bytes: count(report.len()),
+            },
+            report,
+        },
+        Err(refusal) => ReportOutcome {
+            answer: refusal.into(),
+            ..ReportOutcome::default()
+        },
+    }
+}

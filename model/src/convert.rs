@@ -1,0 +1,36 @@
+//! Occurrences by their meaning, frames and ones.
+
+/// The frame that is a hold. The frames 0 to 255 are moves.
+pub const HOLD: u16 = 256;
+
+/// The places b with b + m at most n and t(b + j) = w(j) for each j from 0 to m - 1, ascending.
+pub fn occurrences(pattern: &[u8], text: &[u8]) -> Vec<usize> {
+    let m = pattern.len();
+    (0..=text.len())
+        .filter(|b| b + m <= text.len() && (0..m).all(|j| text[b + j] == pattern[j]))
+        .collect()
+}
+
+/// The places b + q, in the order of the occurrences b.
+pub fn holds(pattern: &[u8], hold: usize, text: &[u8]) -> Vec<usize> {
+    occurrences(pattern, text)
+        .into_iter()
+        .map(|b| b + hold)
+        .collect()
+}
+
+/// Each byte as a move, then frame b + q as a hold for every occurrence b.
+pub fn frames(pattern: &[u8], hold: usize, text: &[u8]) -> Vec<u16> {
+    let mut frames: Vec<u16> = text.iter().map(|&byte| u16::from(byte)).collect();
+    for place in holds(pattern, hold, text) {
+        frames[place] = HOLD;
+    }
+    frames
+}
+
+/// The ones of all bytes of a text.
+pub fn ones(text: &[u8]) -> u32 {
+    text.iter()
+        .map(|&byte| (0..8).filter(|bit| byte >> bit & 1 == 1).count() as u32)
+        .sum()
+}

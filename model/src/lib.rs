@@ -1,0 +1,47 @@
+//! A plain model of document 01, written from that document alone.
+//!
+//! It follows the definitions word by word and takes no short cuts: the tables by their sets, the
+//! occurrences by their meaning, the search by its steps with every comparison written down. It
+//! shares no code and no table with the library that it is compared with.
+//!
+//! Document 01 has trade words for the things of this field. Here they go by the field's names:
+//!
+//! | document 01     | here                        |
+//! |-----------------|-----------------------------|
+//! | card            | byte                        |
+//! | motif w         | pattern                     |
+//! | chain t         | text                        |
+//! | hold place q    | hold offset                 |
+//! | find            | occurrence                  |
+//! | look            | comparison                  |
+//! | holes           | ones                        |
+//! | turned away     | refused                     |
+//! | lent buffer     | the caller's buffer         |
+//! | swatch          | worked example              |
+//!
+//! Frame, move, hold, job and SEEK keep their names.
+//!
+//! # Commands
+//!
+//! In this folder. Those of the libraries and of SEEK need, at the repository's root and first,
+//! `rt staticlib NAME` for each of job, prepare, matcher, converter and report, and `rt check seek`.
+//!
+//! - `cargo test --release --lib --test worked_examples --test consistency`: the model's own tests.
+//! - `cargo test --release`: also the tests of the libraries and of SEEK against the model.
+//! - `cargo run --release --example bench`: their speed beside [`baseline`].
+
+pub mod answers;
+pub mod baseline;
+pub mod calls;
+pub mod convert;
+pub mod gen;
+pub mod job;
+pub mod seek;
+pub mod steps;
+pub mod tables;
+
+/// The most bytes that a pattern has.
+pub const MAX_PATTERN: usize = 128;
+
+/// The most bytes that a text has.
+pub const MAX_TEXT: usize = 16_384;

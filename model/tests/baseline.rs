@@ -1,0 +1,170 @@
+//! The benchmark's plain Rust versions keep the same contracts as the library's calls.
+
+#[macro_use]
+#[path = "common/harness.rs"]
+mod harness;
+
+#[path = "common/examples.rs"]
+mod examples;
+
+#[path = "common/files.rs"]
+mod files;
+
+#[path = "common/searches.rs"]
+mod searches;
+
+#[path = "common/table_buffers.rs"]
+mod table_buffers;
+
+#[path = "common/words.rs"]
+mod words;
+
+#[macro_use]
+#[path = "common/job_suite.rs"]
+mod job_suite;
+
+#[macro_use]
+#[path = "common/prepare_suite.rs"]
+mod prepare_suite;
+
+#[macro_use]
+#[path = "common/matcher_suite.rs"]
+mod matcher_suite;
+
+#[macro_use]
+#[path = "common/converter_suite.rs"]
+mod converter_suite;
+
+#[macro_use]
+#[path = "common/report_suite.rs"]
+mod report_suite;
+
+use converter_suite::ConverterCalls;
+use job_suite::JobCalls;
+use matcher_suite::MatcherCalls;
+use prepare_suite::PrepareCalls;
+use report_suite::ReportCalls;
+use ruffarmoire_model::answers::{Answer, ReadAnswer, ReportAnswer, WriteAnswer};
+use ruffarmoire_model::{baseline, convert};
+
+struct Baseline;
+
+impl JobCalls for Baseline {
+    fn read_job(file: &[u8], pattern: &mut [u8], text: &mut [u8]) -> ReadAnswer {
+        baseline::job::read_job(file, pattern, text)
+    }
+
+    fn write_job(hold: u32, pattern: &[u8], text: &[u8], file: &mut [u8]) -> WriteAnswer {
+        baseline::job::write_job(hold, pattern, text, file)
+    }
+}
+
+impl PrepareCalls for Baseline {
+    fn prepare(
+        pattern: &[u8],
+        order: &mut [i16],
+        delta2: &mut [u16],
+        delta1: &mut [u16],
+    ) -> Answer {
+        baseline::tables::prepare(pattern, order, delta2, delta1)
+    }
+}
+
+/// Document 002's listings.
+struct AsListed;
+
+impl PrepareCalls for AsListed {
+    fn prepare(
+        pattern: &[u8],
+        order: &mut [i16],
+        delta2: &mut [u16],
+        delta1: &mut [u16],
+    ) -> Answer {
+        baseline::tables::prepare_as_listed(pattern, order, delta2, delta1)
+    }
+}
+
+impl MatcherCalls for Baseline {
+    fn search(
+        pattern: &[u8],
+        text: &[u8],
+        order: &mut [i16],
+        delta2: &mut [u16],
+        delta1: &mut [u16],
+        found: &mut [u16],
+    ) -> Answer {
+        baseline::matcher::search(pattern, text, order, delta2, delta1, found)
+    }
+}
+
+impl ConverterCalls for Baseline {
+    fn convert(
+        hold: u32,
+        pattern: &[u8],
+        text: &[u8],
+        order: &mut [i16],
+        delta2: &mut [u16],
+        delta1: &mut [u16],
+        found: &mut [u16],
+        frames: &mut [u16],
+    ) -> Answer {
+        baseline::converter::convert(hold, pattern, text, order, delta2, delta1, found, frames)
+    }
+
+    fn count_ones(text: &[u8]) -> Answer {
+        baseline::converter::count_ones(text)
+    }
+}
+
+impl ReportCalls for Baseline {
+    fn seek_report(file: &[u8], out: &mut [u8]) -> ReportAnswer {
+        baseline::report::seek_report(file, out)
+    }
+}
+
+mod job {
+    job_suite!(crate::Baseline);
+}
+
+mod prepare {
+    prepare_suite!(crate::Baseline);
+}
+
+mod prepare_as_listed {
+    tests_of!(prepare_suite, crate::AsListed:
+        worked_examples,
+        all_short_patterns,
+        structured_patterns,
+        longest_patterns,
+    );
+}
+
+mod matcher {
+    matcher_suite!(crate::Baseline);
+}
+
+mod converter {
+    converter_suite!(crate::Baseline);
+}
+
+mod report {
+    report_suite!(crate::Baseline);
+}
+
+/// What `memmem` and the plain scan find.
+#[test]
+fn occurrences_alone() {
+    let all = searches::short()
+        .chain(searches::longer())
+        .chain(searches::structured())
+        .chain(searches::about_as_long());
+    for (pattern, text) in all {
+        let expected = table_buffers::entries(&convert::occurrences(&pattern, &text));
+        let mut found = vec![0; text.len()];
+        let count = baseline::matcher::occurrences_by_memmem(&pattern, &text, &mut found);
+        assert_eq!(found[..count], expected);
+        found.fill(0);
+        let count = baseline::matcher::occurrences_by_scan(&pattern, &text, &mut found);
+        assert_eq!(found[..count], expected);
+    }
+}

@@ -1,0 +1,44 @@
+//! Words: all short ones, and long ones that repeat themselves on many scales.
+
+use std::ops::Range;
+
+/// Every word over the given letters with one of the given lengths.
+pub fn words(letters: &[u8], lengths: Range<usize>) -> impl Iterator<Item = Vec<u8>> + '_ {
+    lengths.flat_map(move |length| {
+        (0..letters.len().pow(length as u32)).map(move |number| {
+            let mut rest = number;
+            (0..length)
+                .map(|_| {
+                    let letter = letters[rest % letters.len()];
+                    rest /= letters.len();
+                    letter
+                })
+                .collect()
+        })
+    })
+}
+
+/// Words of the given length, each made by one rule again and again: Fibonacci's, Thue's and
+/// Morse's, the ruler's, the one that doubles periods, and runs of growing length.
+pub fn structured_words(length: usize) -> Vec<Vec<u8>> {
+    let rules: [&dyn Fn(u8) -> Vec<u8>; 4] = [
+        &|letter| if letter == 0 { vec![0, 1] } else { vec![0] },
+        &|letter| vec![letter, 1 - letter],
+        &|letter| vec![0, letter + 1],
+        &|letter| vec![0, 1 - letter],
+    ];
+    let mut made: Vec<Vec<u8>> = rules.iter().map(|rule| grown(rule, length)).collect();
+    let runs = (1..).flat_map(|run| (0..=run).map(move |place| u8::from(place == run)));
+    made.push(runs.take(length).collect());
+    made
+}
+
+/// The word that a rule, which turns each letter into some, grows from one letter.
+fn grown(rule: impl Fn(u8) -> Vec<u8>, length: usize) -> Vec<u8> {
+    let mut word = vec![0];
+    while word.len() < length {
+        word = word.iter().flat_map(|&letter| rule(letter)).collect();
+    }
+    word.truncate(length);
+    word
+}

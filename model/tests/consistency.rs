@@ -1,0 +1,324 @@
+//! The model against itself: what document 01 says of the definitions must hold of them.
+
+use ruffarmoire_model::answers::Refusal;
+use ruffarmoire_model::calls::{self, TableLengths};
+use ruffarmoire_model::convert;
+use ruffarmoire_model::gen::{Random, Shape, SHAPES};
+use ruffarmoire_model::job;
+use ruffarmoire_model::seek::seek;
+use ruffarmoire_model::steps::{bound, search_with, Search};
+use ruffarmoire_model::tables::{in_neg, in_pos, period, Tables};
+
+/// The steps find what occurs, within the bound.
+fn check_search(tables: &Tables, pattern: &[u8], text: &[u8]) -> Search {
+    let done = search_with(tables, pattern, text);
+    let context = || format!("pattern {pattern:?}, text {text:?}");
+    assert_eq!(
+        done.occurrences,
+        convert::occurrences(pattern, text),
+        "{}",
+        context()
+    );
+    let bound = bound(tables, text.len(), done.occurrences.len());
+    assert!(done.comparisons.len() <= bound, "{}", context());
+    done
+}
+
+/// A text that agrees with the first one wherever the search compared has the same comparisons in
+/// the same order, the same occurrences and the same holds. Tells whether the two texts differ.
+fn check_pair(
+    random: &mut Random,
+    tables: &Tables,
+    pattern: &[u8],
+    text: &[u8],
+    few: &[u8],
+) -> bool {
+    let first = check_search(tables, pattern, text);
+    let mut compared = vec![false; text.len()];
+    for comparison in &first.comparisons {
+        compared[comparison.text_place] = true;
+    }
+    let often = random.between(1, 4);
+    let mut other = text.to_vec();
+    for place in 0..text.len() {
+        if !compared[place] && random.below(often) == 0 {
+            other[place] = random.pick(few);
+        }
+    }
+    let second = check_search(tables, pattern, &other);
+    assert_eq!(
+        first, second,
+        "pattern {pattern:?}, texts {text:?} and {other:?}"
+    );
+    let last = pattern.len() - 1;
+    for hold in [0, random.between(0, last), last] {
+        let marked = |text: &[u8]| -> Vec<usize> {
+            let frames = convert::frames(pattern, hold, text);
+            (0..text.len())
+                .filter(|&place| frames[place] == convert::HOLD)
+                .collect()
+        };
+        assert_eq!(marked(text), marked(&other));
+        assert_eq!(marked(text), convert::holds(pattern, hold, text));
+    }
+    other != text
+}
+
+/// The word of the given length over the first `base` bytes with this number.
+fn word(number: usize, base: usize, length: usize) -> Vec<u8> {
+    let mut rest = number;
+    (0..length)
+        .map(|_| {
+            let byte = (rest % base) as u8;
+            rest /= base;
+            byte
+        })
+        .collect()
+}
+
+#[test]
+fn all_short_texts_over_two_bytes() {
+    for m in 1..=6 {
+        for pattern_number in 0..1 << m {
+            let pattern = word(pattern_number, 2, m);
+            let tables = Tables::of(&pattern);
+            for n in 0..=11 {
+                for text_number in 0..1 << n {
+                    check_search(&tables, &pattern, &word(text_number, 2, n));
+                }
+            }
+        }
+    }
+}
+
+#[test]
+fn all_short_texts_over_three_bytes() {
+    for m in 1..=4 {
+        for pattern_number in 0..3_usize.pow(m) {
+            let pattern = word(pattern_number, 3, m as usize);
+            let tables = Tables::of(&pattern);
+            for n in 0..=7 {
+                for text_number in 0..3_usize.pow(n) {
+                    check_search(&tables, &pattern, &word(text_number, 3, n as usize));
+                }
+            }
+        }
+    }
+}
+
+#[test]
+fn short_searches_and_their_pairs() {
+    let mut random = Random::seeded(1);
+    let mut different = 0;
+    for round in 0..6_000 {
+        let m = random.between(1, 9);
+        let n = random.between(0, 40);
+        let (pattern, text) = SHAPES[round % SHAPES.len()].pattern_and_text(&mut random, m, n);
+        let mut few: Vec<u8> = pattern.iter().chain(&text).copied().collect();
+        few.push(random.byte());
+        let tables = Tables::of(&pattern);
+        different += usize::from(check_pair(&mut random, &tables, &pattern, &text, &few));
+    }
+    assert!(different > 2_500, "only {different} pairs differed");
+}
+
+#[test]
+fn longer_searches_and_their_pairs() {
+    let mut random = Random::seeded(2);
+    let mut different = 0;
+    for round in 0..300 {
+        let m = random.between(1, 128);
+        let n = random.between(0, 600);
+        let (pattern, text) = SHAPES[round % SHAPES.len()].pattern_and_text(&mut random, m, n);
+        let mut few = pattern.clone();
+        few.push(random.byte());
+        let tables = Tables::of(&pattern);
+        different += usize::from(check_pair(&mut random, &tables, &pattern, &text, &few));
+    }
+    assert!(different > 150, "only {different} pairs differed");
+}
+
+#[test]
+fn largest_searches() {
+    let mut random = Random::seeded(3);
+    for shape in SHAPES {
+        for m in [1, 2, 127, 128] {
+            let (pattern, text) = shape.pattern_and_text(&mut random, m, 16_384);
+            check_search(&Tables::of(&pattern), &pattern, &text);
+        }
+    }
+}
+
+/// One byte throughout is the dearest text for its pattern: every alignment compares all.
+#[test]
+fn comparisons_of_one_byte_throughout() {
+    for m in [2, 5, 128] {
+        let (pattern, text) = (vec![7; m], vec![7; 300]);
+        let tables = Tables::of(&pattern);
+        let done = check_search(&tables, &pattern, &text);
+        assert_eq!(done.comparisons.len(), (300 - m + 1) * m);
+    }
+}
+
+#[test]
+fn tables_are_well_formed() {
+    let mut random = Random::seeded(4);
+    for round in 0..400 {
+        let m = if round % 8 == 0 {
+            128
+        } else {
+            random.between(1, 24)
+        };
+        let (pattern, _) = SHAPES[round % SHAPES.len()].pattern_and_text(&mut random, m, 0);
+        let tables = Tables::of(&pattern);
+
+        // The order has each place once, with m - 1 in front and -1 at the end.
+        assert_eq!(tables.order.len(), m + 1);
+        assert_eq!(tables.order[0], m as i16 - 1);
+        let mut sorted = tables.order.clone();
+        sorted.sort();
+        let places: Vec<i16> = (-1..m as i16).collect();
+        assert_eq!(sorted, places);
+
+        // Every shift is from 1 to m.
+        assert_eq!(tables.delta2.len(), m + 1);
+        assert_eq!(tables.delta2[0], 0);
+        assert!(tables.delta2[1..].iter().all(|k| (1..=m).contains(k)));
+        assert_eq!(tables.delta2[m], tables.period);
+        assert_eq!(tables.delta1.len(), 256 * m);
+        assert!(tables.delta1.iter().all(|k| (1..=m).contains(k)));
+
+        // The period is what is left of the pattern before its longest border.
+        let border = (0..m).rev().find(|&b| pattern[..b] == pattern[m - b..]);
+        assert_eq!(tables.period, m - border.unwrap());
+        let by_h_min = (1..=m).find(|&k| tables.h_min[k] == k - 1);
+        assert_eq!(tables.period, by_h_min.unwrap());
+
+        // Where h_min(k) is at least k, the byte k places lower differs there and nowhere above.
+        for k in 1..=m {
+            let h = tables.h_min[k];
+            assert!((k - 1..m).contains(&h));
+            assert!((h + 1..m).all(|j| j < k || pattern[j - k] == pattern[j]));
+            assert!(h < k || pattern[h - k] != pattern[h]);
+        }
+
+        // Entries that no definition fills stay 0.
+        assert_eq!(tables.h_min[0], 0);
+        assert!(tables.h_min[m + 1..].iter().all(|&h| h == 0));
+        assert!(tables.k_min[m..].iter().all(|&k| k == 0));
+        assert!(tables.r_min[m..].iter().all(|&r| r == 0));
+    }
+}
+
+#[test]
+fn sets_split_the_places() {
+    let pattern = [1, 2, 1, 1, 3];
+    for c in 0..5 {
+        for i in -1..5 {
+            for k in 0..8 {
+                let within = k as isize <= i;
+                let (pos, neg) = (in_pos(&pattern, c, i, k), in_neg(&pattern, c, i, k));
+                assert_eq!(pos || neg, within);
+                assert!(!(pos && neg));
+            }
+        }
+    }
+    assert_eq!(period(&pattern), 5);
+}
+
+#[test]
+fn frames_hold_at_each_occurrence() {
+    let mut random = Random::seeded(5);
+    for round in 0..1_000 {
+        let (m, n) = (random.between(1, 6), random.between(0, 30));
+        let job = SHAPES[round % SHAPES.len()].job(&mut random, m, n);
+        let frames = convert::frames(&job.pattern, job.hold, &job.text);
+        let holds = convert::holds(&job.pattern, job.hold, &job.text);
+        let expected: Vec<u16> = (0..n)
+            .map(|place| match holds.contains(&place) {
+                true => 256,
+                false => u16::from(job.text[place]),
+            })
+            .collect();
+        assert_eq!(frames, expected);
+        assert_eq!(
+            convert::ones(&job.text),
+            job.text.iter().map(|byte| byte.count_ones()).sum::<u32>()
+        );
+    }
+}
+
+#[test]
+fn calls_agree_with_seek() {
+    let mut random = Random::seeded(6);
+    for round in 0..400 {
+        let (m, n) = (random.between(1, 12), random.between(0, 60));
+        let job = SHAPES[round % SHAPES.len()].job(&mut random, m, n);
+        let lengths = TableLengths::needed(m);
+        let hold = job.hold as u32;
+        let converted = calls::convert(hold, &job.pattern, &job.text, lengths, n, n);
+        let searched = calls::search(&job.pattern, &job.text, lengths, n);
+        let prepared = calls::prepare(&job.pattern, lengths);
+        let counted = calls::count_ones(&job.text);
+        assert_eq!(converted.answer.status, 0);
+        assert_eq!(converted.answer.occurrences, searched.answer.occurrences);
+        assert_eq!(converted.answer.comparisons, searched.answer.comparisons);
+        assert_eq!(converted.answer.ones, counted.ones);
+        assert_eq!(searched.answer.ones, 0);
+        assert_eq!(converted.occurrences, searched.occurrences);
+        assert_eq!(
+            (&prepared.order, &prepared.delta1, &prepared.delta2),
+            (&converted.order, &converted.delta1, &converted.delta2)
+        );
+
+        let printed = seek(&job::write(&job));
+        let lines: Vec<usize> = printed
+            .lines()
+            .map(|line| usize::from_str_radix(line, 16).unwrap())
+            .collect();
+        let h = converted.occurrences.len();
+        assert_eq!(lines.len(), 3 + h + n);
+        assert_eq!(lines[0], h);
+        assert_eq!(lines[1], converted.answer.comparisons as usize);
+        assert_eq!(lines[2], converted.answer.ones as usize);
+        assert_eq!(lines[3..3 + h], converted.occurrences);
+        let frames: Vec<usize> = converted.frames.iter().map(|&f| f.into()).collect();
+        assert_eq!(lines[3 + h..], frames);
+    }
+}
+
+#[test]
+fn job_files_round_trip() {
+    let mut random = Random::seeded(7);
+    for round in 0..300 {
+        let (m, n) = (random.between(1, 128), random.between(0, 200));
+        let job = SHAPES[round % SHAPES.len()].job(&mut random, m, n);
+        let file = job::write(&job);
+        assert_eq!(file.len(), job::file_length(m, n));
+        assert_eq!(job::read(&file), Ok(job));
+    }
+    let largest = Shape::AnyBytes.job(&mut random, 128, 16_384);
+    let file = job::write(&largest);
+    assert_eq!(file.len(), 49_547);
+    assert_eq!(job::read(&file), Ok(largest));
+}
+
+/// A file that is taken is the one that its job is written as.
+#[test]
+fn taken_files_are_written_files() {
+    let mut random = Random::seeded(8);
+    let mut taken = 0;
+    for _ in 0..60_000 {
+        let mut file = job::write(&Shape::AnyBytes.job(&mut random, 2, 1));
+        let place = random.below(file.len());
+        file[place] = random.pick(b"0129AFag\n\r ");
+        match job::read(&file) {
+            Ok(job) => {
+                taken += 1;
+                assert_eq!(job::write(&job), file);
+            }
+            Err(refusal) => assert_ne!(refusal, Refusal::ShortBuffer),
+        }
+    }
+    assert!(taken > 1_000);
+}

@@ -1,0 +1,32 @@
+//! The library `job`, written in Rattle, against the model.
+
+#[macro_use]
+#[path = "common/harness.rs"]
+mod harness;
+
+#[path = "common/examples.rs"]
+mod examples;
+
+#[macro_use]
+#[path = "common/job_suite.rs"]
+mod job_suite;
+
+#[path = "../library/job.rs"]
+mod library;
+
+use job_suite::JobCalls;
+use ruffarmoire_model::answers::{ReadAnswer, WriteAnswer};
+
+struct Library;
+
+impl JobCalls for Library {
+    fn read_job(file: &[u8], pattern: &mut [u8], text: &mut [u8]) -> ReadAnswer {
+        library::read_job(file, pattern, text)
+    }
+
+    fn write_job(hold: u32, pattern: &[u8], text: &[u8], file: &mut [u8]) -> WriteAnswer {
+        library::write_job(hold, pattern, text, file)
+    }
+}
+
+job_suite!(Library);

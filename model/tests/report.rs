@@ -1,0 +1,31 @@
+//! The library `report`, written in Rattle, against the model.
+
+#[macro_use]
+#[path = "common/harness.rs"]
+mod harness;
+
+#[path = "common/examples.rs"]
+mod examples;
+
+#[path = "common/files.rs"]
+mod files;
+
+#[macro_use]
+#[path = "common/report_suite.rs"]
+mod report_suite;
+
+#[path = "../library/report.rs"]
+mod library;
+
+use report_suite::ReportCalls;
+use ruffarmoire_model::answers::ReportAnswer;
+
+struct Library;
+
+impl ReportCalls for Library {
+    fn seek_report(file: &[u8], out: &mut [u8]) -> ReportAnswer {
+        library::seek_report(file, out)
+    }
+}
+
+report_suite!(Library);

@@ -1,0 +1,186 @@
+//! The model on document 01's worked examples ("Marked swatches") and on SEEK's listing.
+
+use ruffarmoire_model::calls::{self, TableLengths};
+use ruffarmoire_model::job::{self, Job};
+use ruffarmoire_model::steps::{bound, search};
+use ruffarmoire_model::tables::{delta1, period, Tables};
+use ruffarmoire_model::{convert, seek};
+
+const A: u8 = 0x06;
+const B: u8 = 0x01;
+const C: u8 = 0x18;
+
+/// The occurrences and the number of comparisons, once by the steps; the occurrences also by their
+/// meaning.
+fn check_search(pattern: &[u8], text: &[u8], occurrences: &[usize], comparisons: usize) {
+    let done = search(pattern, text);
+    assert_eq!(done.occurrences, occurrences);
+    assert_eq!(done.comparisons.len(), comparisons);
+    assert_eq!(convert::occurrences(pattern, text), occurrences);
+}
+
+#[test]
+fn example_1_tables() {
+    let tables = Tables::of(&[A, A, C, A, A]);
+    assert_eq!(tables.period, 3);
+    assert_eq!(tables.order, [4, 3, 0, 1, 2, -1]);
+    assert_eq!(tables.delta2, [0, 1, 3, 3, 3, 3]);
+}
+
+#[test]
+fn example_2_tables() {
+    let tables = Tables::of(&[C, B, A, A, A]);
+    assert_eq!(tables.period, 5);
+    assert_eq!(tables.order, [4, 2, 3, 0, 1, -1]);
+    assert_eq!(tables.delta2, [0, 1, 2, 5, 5, 5]);
+}
+
+#[test]
+fn example_3_shift_after_the_last_byte() {
+    let pattern = [A, A, C, A, A];
+    assert_eq!(delta1(&pattern, C, 1), 2);
+    assert_eq!(delta1(&pattern, C, 2), 5);
+    assert_eq!(delta1(&pattern, C, 5), 2);
+    let tables = Tables::of(&pattern);
+    assert_eq!(tables.delta1(C, 1), 2);
+    assert_eq!(tables.delta1(C, 2), 5);
+    assert_eq!(tables.delta1(C, 5), 2);
+    assert_eq!(tables.delta1[0x18 * 5 + 1], 5);
+}
+
+#[test]
+fn example_4_two_occurrences() {
+    let pattern = [A, A, C, A, A];
+    let text = [A, A, C, A, A, A, C, A, A];
+    check_search(&pattern, &text, &[0, 4], 12);
+    assert_eq!(bound(&Tables::of(&pattern), text.len(), 2), 13);
+}
+
+#[test]
+fn example_5_empty_text() {
+    check_search(&[A, A, C, A, A], &[], &[], 0);
+}
+
+#[test]
+fn example_6_one_byte() {
+    check_search(&[A], &[A], &[0], 1);
+}
+
+#[test]
+fn example_7_overlapping_occurrences() {
+    check_search(&[A; 4], &[A; 6], &[0, 1, 2], 12);
+}
+
+#[test]
+fn example_8_one_byte_twice() {
+    check_search(&[A], &[A, C, A], &[0, 2], 3);
+}
+
+#[test]
+fn example_9_text_shorter_than_the_pattern() {
+    check_search(&[A, A], &[A], &[], 0);
+}
+
+#[test]
+fn example_10_ones() {
+    assert_eq!(convert::ones(&[0xFF, 0x00]), 8);
+    assert_eq!(calls::count_ones(&[0xFF, 0x00]).ones, 8);
+}
+
+#[test]
+fn seek_listing() {
+    let file = "0105020009\n06\n06\n18\n06\n06\n06\n06\n18\n06\n06\n06\n18\n06\n06\n";
+    let printed = "0002\n0000000C\n00000012\n0000\n0004\n\
+                   0006\n0006\n0100\n0006\n0006\n0006\n0100\n0006\n0006\n";
+    assert_eq!(seek::seek(file.as_bytes()), printed);
+    let job = Job {
+        pattern: vec![A, A, C, A, A],
+        hold: 2,
+        text: vec![A, A, C, A, A, A, C, A, A],
+    };
+    assert_eq!(job::read(file.as_bytes()), Ok(job.clone()));
+    assert_eq!(job::write(&job), file.as_bytes());
+}
+
+#[test]
+fn seek_refused() {
+    assert_eq!(seek::seek(b""), "FF01\n");
+    assert_eq!(seek::seek(b"01050G0000\n"), "FF02\n");
+    assert_eq!(seek::seek(b"0201000000\n"), "FF03\n");
+    assert_eq!(seek::seek(b"0100000000\n"), "FF04\n");
+    assert_eq!(seek::seek(b"0105050000\n"), "FF05\n");
+    assert_eq!(seek::seek(b"0101004001\n"), "FF06\n");
+    assert_eq!(seek::seek(b"0101000000\n"), "FF01\n");
+    assert_eq!(seek::seek(b"0101000000\n0a\n"), "FF02\n");
+    assert_eq!(
+        seek::seek(b"0101000000\n0A\n"),
+        "0000\n00000000\n00000000\n"
+    );
+}
+
+/// The edges that document 01 lists under refusals, and its order of refusals.
+#[test]
+fn refusals_of_the_calls() {
+    let enough = TableLengths::needed(128);
+    let convert = |hold: u32, m: usize, n: usize, lengths, occurrences, frames| {
+        let (pattern, text) = (vec![A; m], vec![C; n]);
+        calls::convert(hold, &pattern, &text, lengths, occurrences, frames)
+            .answer
+            .status
+    };
+    assert_eq!(convert(0, 0, 1, enough, 1, 1), 4);
+    assert_eq!(convert(127, 128, 1, enough, 1, 1), 0);
+    assert_eq!(convert(0, 129, 1, enough, 1, 1), 4);
+    assert_eq!(convert(3, 4, 1, enough, 1, 1), 0);
+    assert_eq!(convert(4, 4, 1, enough, 1, 1), 5);
+    assert_eq!(convert(0, 1, 16_384, enough, 16_384, 16_384), 0);
+    assert_eq!(convert(0, 1, 16_385, enough, 16_385, 16_385), 6);
+    assert_eq!(convert(0, 1, 2, enough, 1, 2), 7);
+    assert_eq!(convert(0, 1, 2, enough, 2, 1), 7);
+    for m in [1, 5, 128] {
+        let exact = TableLengths::needed(m);
+        assert_eq!(convert(0, m, 0, exact, 0, 0), 0);
+        let mut short = exact;
+        short.order -= 1;
+        assert_eq!(convert(0, m, 0, short, 0, 0), 7);
+        let mut short = exact;
+        short.delta1 -= 1;
+        assert_eq!(convert(0, m, 0, short, 0, 0), 7);
+        let mut short = exact;
+        short.delta2 -= 1;
+        assert_eq!(convert(0, m, 0, short, 0, 0), 7);
+    }
+    let none = TableLengths {
+        order: 0,
+        delta1: 0,
+        delta2: 0,
+    };
+    assert_eq!(convert(0, 0, 16_385, none, 0, 0), 4);
+    assert_eq!(convert(1, 1, 16_385, none, 0, 0), 5);
+    assert_eq!(convert(0, 1, 16_385, none, 0, 0), 6);
+    assert_eq!(convert(0, 1, 16_384, none, 0, 0), 7);
+    assert_eq!(calls::count_ones(&[0xFF; 16_384]).ones, 131_072);
+    assert_eq!(calls::count_ones(&[0xFF; 16_385]).status, 6);
+    assert_eq!(calls::seek_report(b"", 5).report, b"FF01\n");
+    assert_eq!(calls::seek_report(b"", 5).answer.answer.status, 0);
+    assert_eq!(calls::seek_report(b"", 5).answer.bytes, 5);
+    assert_eq!(calls::seek_report(b"", 4).report, b"");
+    assert_eq!(calls::seek_report(b"", 4).answer.answer.status, 7);
+    assert_eq!(calls::seek_report(b"", 4).answer.bytes, 0);
+}
+
+/// The three slips that document 01 warns of give something else on the worked examples.
+#[test]
+fn slips_are_seen() {
+    // Moving on by m after an occurrence would leave only the first of three.
+    assert_ne!(period(&[A; 4]), 4);
+    // Without the last shift the answer would be that for s = m.
+    let pattern = [A, A, C, A, A];
+    assert_ne!(delta1(&pattern, C, 2), delta1(&pattern, C, 5));
+    // A text whose holds were marked in it would have lost its second occurrence.
+    let mut marked = vec![A, A, A];
+    marked[1] = 0;
+    assert_eq!(convert::occurrences(&[A, A], &[A, A, A]), [0, 1]);
+    assert_eq!(convert::frames(&[A, A], 1, &[A, A, A]), [6, 256, 256]);
+    assert_eq!(convert::occurrences(&[A, A], &marked), []);
+}
