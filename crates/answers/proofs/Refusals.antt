@@ -35,6 +35,22 @@ done-none (r ∷ rs) h e =
     let here = not-first (r .holds) (r .number) (first-of rs) (h .0) e in
     (here .0, done-none rs (h .1) (here .1))
 
+-- the first that holds, of conditions one list after another
+past-test : (holds : Bool) (number later later' : ℕ)
+    → (cond holds number later ≡ 0 → ⊥) → ((later ≡ 0 → ⊥) → later' ≡ later) → cond holds number later' ≡ cond holds number later
+past-test true n l l' h e = refl
+past-test false n l l' h e = e h
+
+pub first-refused : (rs ss : List Refusal) → (first-of rs ≡ 0 → ⊥) → first-of (rs ++ ss) ≡ first-of rs
+unfolding first-of
+first-refused [] ss h = absurd (h refl)
+first-refused (r ∷ rs) ss h = past-test (r .holds) _ _ _ h (first-refused rs ss)
+
+pub first-past : (rs ss : List Refusal) → None-holds rs → first-of (rs ++ ss) ≡ first-of ss
+unfolding first-of
+first-past [] ss h = refl
+first-past (r ∷ rs) ss h = rw (h .0) (first-past rs ss (h .1))
+
 -- conditions one list after another
 pub none-append : (rs ss : List Refusal) → None-holds rs → None-holds ss → None-holds (rs ++ ss)
 none-append [] ss h k = k

@@ -37,6 +37,10 @@ hold-refusal m q = refuse 5 (leb m q)
 abbrev pub text-refusal : (n : ℕ) → Refusal
 text-refusal n = refuse 6 (ltb longest-text n)
 
+-- what whoever drew the job can cause, in its order
+abbrev pub job-refusals : (m q n : ℕ) → List Refusal
+job-refusals m q n = pattern-refusal m ∷ hold-refusal m q ∷ text-refusal n ∷ []
+
 -- 7: a caller's buffer (lent buffer) has fewer entries than are needed
 abbrev pub buffer-refusal : (entries needed : ℕ) → Refusal
 buffer-refusal e n = refuse 7 (ltb e n)

@@ -9,12 +9,12 @@ use Rattle.answers.proofs.Fronts.{in-front-take}
 use Rattle.answers.specs.Answers.{status-only, if-done}
 use Rattle.answers.specs.Buffers.{in-front}
 use Rattle.answers.specs.declared.Answer.{Answer}
-use Rattle.matcher.specs.Occurrences.{occurrences}
+use Rattle.steps.specs.Occurrences.{occurrences}
 use Rattle.matcher.specs.Search.{search-answer, found-left, Search-outcome-of}
-use Rattle.converter.proofs.Holds.{frames-in-front}
+use Rattle.frames.proofs.Holds.{frames-in-front}
 use Rattle.converter.specs.Convert.{convert-answer, Convert-outcome-of}
-use Rattle.converter.specs.Frames.{with-holds}
-use Rattle.converter.specs.Ones.{ones-of}
+use Rattle.frames.specs.Frames.{with-holds}
+use Rattle.ones.specs.Ones.{ones-of}
 
 module _ {w t : List ℕ} {order : List ℤ} {delta2 delta1 found : List ℕ} where
   -- a refused call answers its status and leaves every buffer

@@ -1,5 +1,3 @@
-pub mod Ascending
-pub mod Holds
 pub mod Taken
 pub mod Converted
 pub mod Paired

@@ -16,18 +16,18 @@ use Rattle.answers.specs.declared.Answer.{Answer}
 use Rattle.tables.specs.Prepare.{table-refusals}
 use Rattle.tables.specs.Sets.{byte}
 use Rattle.tables.specs.Tables.{period}
-use Rattle.matcher.proofs.Bound.{few-comparisons}
-use Rattle.matcher.proofs.Decide.{same-texts}
-use Rattle.matcher.specs.Occurrences.{occurrences}
-use Rattle.matcher.specs.Promises.{Few-comparisons, bound}
+use Rattle.steps.proofs.Bound.{few-comparisons}
+use Rattle.steps.proofs.Decide.{same-texts}
+use Rattle.steps.specs.Occurrences.{occurrences}
+use Rattle.steps.specs.Promises.{Few-comparisons, bound}
 use Rattle.matcher.specs.Search.{search-status, search-answer, found-left}
-use Rattle.matcher.specs.Steps.{comparisons}
-use Rattle.converter.proofs.Ascending.{passing}
-use Rattle.converter.proofs.Holds.{length-frames, holds-of, holds-listed}
+use Rattle.steps.specs.Steps.{comparisons}
+use Rattle.frames.proofs.Ascending.{passing}
+use Rattle.frames.proofs.Holds.{length-frames, holds-of, holds-listed}
 use Rattle.converter.proofs.Taken.{taken}
 use Rattle.converter.specs.Convert.{convert-answer}
-use Rattle.converter.specs.Frames.{hold, frames}
-use Rattle.converter.specs.Ones.{ones-of}
+use Rattle.frames.specs.Frames.{hold, frames}
+use Rattle.ones.specs.Ones.{ones-of}
 use Rattle.converter.specs.Paired.{Call, Converts, Taken, Search, by-search, by-convert, found-by, holds-by, holds-from, frames-held, All-bytes, Every-search-exact, Paired}
 
 -- the positions of the holds are those that pass, for a test that tells which frames are holds

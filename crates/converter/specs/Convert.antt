@@ -9,11 +9,11 @@ use Rattle.answers.specs.Buffers.{in-front}
 use Rattle.answers.specs.Refusals.{first-of, pattern-refusal, hold-refusal, text-refusal, buffer-refusal}
 use Rattle.answers.specs.declared.Answer.{Answer}
 use Rattle.tables.specs.Prepare.{table-refusals, Tables-left}
-use Rattle.matcher.specs.Occurrences.{occurrences}
+use Rattle.steps.specs.Occurrences.{occurrences}
 use Rattle.matcher.specs.Search.{found-left}
-use Rattle.matcher.specs.Steps.{comparisons}
-use Rattle.converter.specs.Frames.{frames}
-use Rattle.converter.specs.Ones.{ones-of}
+use Rattle.steps.specs.Steps.{comparisons}
+use Rattle.frames.specs.Frames.{frames}
+use Rattle.ones.specs.Ones.{ones-of}
 
 -- the status of converting: 4, 5, 6, 7; n entries each are needed for finds and frames
 unfoldable pub convert-status : (m q n : ℕ) → (order delta2 delta1 found frames : ℕ) → ℕ

@@ -10,12 +10,12 @@ use lib.ListN.{length, take}
 use Rattle.answers.specs.declared.Answer.{Answer}
 use Rattle.tables.specs.Sets.{byte}
 use Rattle.tables.specs.Tables.{period}
-use Rattle.matcher.specs.Occurrences.{occurrences}
-use Rattle.matcher.specs.Promises.{Same-at, bound}
+use Rattle.steps.specs.Occurrences.{occurrences}
+use Rattle.steps.specs.Promises.{Same-at, bound}
 use Rattle.matcher.specs.Search.{Search-outcome}
-use Rattle.matcher.specs.Steps.{comparisons}
+use Rattle.steps.specs.Steps.{comparisons}
 use Rattle.converter.specs.Convert.{Convert-outcome}
-use Rattle.converter.specs.Frames.{hold}
+use Rattle.frames.specs.Frames.{hold}
 
 -- the caller's buffers (lent buffers); `search` is lent no frames, and says nothing of these
 pub record Buffers : Type 0 where

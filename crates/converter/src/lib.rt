@@ -1,59 +1,12 @@
-// Conversion to frames, and the ones of a text.
+// Conversion to frames: the search, then the moves and the holds.
 ghost use mathlib.Core.Bool.{cond};
 ghost use mathlib.Core.List.{[], _∷_, _++_};
 ghost use mathlib.Core.Path.{_≡_};
-ghost use Prim.Native.Nat.{ℕ, _+_, _<_, _≤_};
-ghost use lib.ListN.{length, getD};
-ghost use Rattle.answers.specs.Answers.{status-only};
-ghost use Rattle.answers.specs.Buffers.{in-front};
+ghost use Prim.Native.Nat.{_≤_};
 ghost use Rattle.answers.specs.Refusals.{first-of, buffer-refusal};
 ghost use Rattle.tables.specs.Prepare.{table-refusals};
 ghost use Rattle.converter.specs.Convert.{convert-status, Convert-outcome};
-ghost use Rattle.converter.specs.Frames.{with-holds};
-ghost use Rattle.converter.specs.Ones.{ones-of, count-answer};
 use answers::Answer;
-
-const HOLD: u16 = 256;
-
-// The answer of a refused call.
-fn refused(status: u32) -> Answer
-    ensures { λ r. ⌜ r ≡ status-only status ⌝ }
-{
-    Answer {
-        status,
-        occurrences: 0,
-        comparisons: 0,
-        ones: 0,
-    }
-}
-
-// The ones of the bytes of a text (the holes of a chain).
-fn ones_of(text: &[u8]) -> u32
-    requires { ⌜ length (now text) ≤ 16384 ⌝ }
-    ensures { λ r. ⌜ r ≡ ones-of (now (text .entry)) ⌝ }
-{
-    let mut ones: u32 = 0;
-    for i in 0..text.len() {
-        ones += u8::count_ones(text[i]);
-    }
-    ones
-}
-
-// Counts the ones of a text (the holes of a chain).
-#[no_mangle]
-pub extern "C" fn count_ones(text: &[u8]) -> Answer
-    ensures { λ r. ⌜ r ≡ count-answer (now (text .entry)) ⌝ }
-{
-    if 16384 < text.len() {
-        return refused(6);
-    }
-    Answer {
-        status: 0,
-        occurrences: 0,
-        comparisons: 0,
-        ones: ones_of(text),
-    }
-}
 
 // Whether a caller's buffer has fewer entries than are needed, n each for occurrences (finds) and frames.
 fn too_short(
@@ -99,26 +52,6 @@ fn convert_status(
     0
 }
 
-// Copies each byte of a text to a move.
-fn write_moves(text: &[u8], frames: &mut [u16])
-    requires { ⌜ length (now text) ≤ length (now frames) ⌝ }
-    ensures { λ r. ⌜ now (frames .exit) ≡ in-front (now (text .entry)) (now (frames .entry)) ⌝ }
-{
-    for at in 0..text.len() {
-        frames[at] = text[at] as u16;
-    }
-}
-
-// Makes frame b + q a hold for every entry b, q being the hold offset (hold place).
-fn mark_holds(found: &[u16], hold: usize, frames: &mut [u16])
-    requires { ⌜ ((i : ℕ) → i < length (now found) → getD (now found) i 0 + hold < length (now frames)) ⌝ }
-    ensures { λ r. ⌜ now (frames .exit) ≡ with-holds hold (now (found .entry)) (now (frames .entry)) ⌝ }
-{
-    for i in 0..found.len() {
-        frames[found[i] as usize + hold] = HOLD;
-    }
-}
-
 // Converts a text (chain) to frames, by a pattern (motif) and a hold offset (hold place).
 #[no_mangle]
 pub extern "C" fn convert(
@@ -144,16 +77,16 @@ pub extern "C" fn convert(
         frames.len(),
     );
     if status != 0 {
-        return refused(status);
+        return answers::status_only(status);
     }
     let searched = matcher::search(pattern, text, order, delta2, delta1, found);
     let h = searched.occurrences as usize;
-    write_moves(text, frames);
-    mark_holds(&found[..h], hold as usize, frames);
+    frames::write_moves(text, frames);
+    frames::mark_holds(&found[..h], hold as usize, frames);
     Answer {
         status: 0,
         occurrences: searched.occurrences,
         comparisons: searched.comparisons,
-        ones: ones_of(text),
+        ones: ones::count_ones(text).ones,
     }
 }

@@ -1,6 +1,5 @@
 pub mod Lines
 pub mod Lengths
 pub mod Taken
-pub mod Reading
 pub mod RoundTrip
 pub mod CallsRoundTrip

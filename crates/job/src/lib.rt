@@ -1,7 +1,4 @@
-// Job files: reading and writing.
-pub mod read;
-pub mod write;
-
+// Job files: what reading and writing answer. The file's definition is in specs/, and what is promised of it in specs/Promises.antt.
 use answers::Answer;
 
 // What reading answers.
@@ -22,19 +19,5 @@ pub struct WriteAnswer {
     pub bytes: u32,
 }
 
-// What a job's first line gives.
-pub struct Fields {
-    pub edition: usize,
-    pub m: usize,
-    pub q: usize,
-    pub n: usize,
-}
-
-// A first line as it is read.
-pub enum FirstLine {
-    Good(Fields),
-    // refusal 2: a byte that is not the digit or line end due there
-    Refused,
-}
-
-const LINE_END: u8 = 0x0A;
+// What ends each line.
+pub const LINE_END: u8 = 0x0A;

@@ -1,12 +1,1 @@
-pub mod Steps
-pub mod Outcome
-pub mod Fuel
-pub mod Shift
-pub mod Occurrences
-pub mod Decide
-pub mod Bound
-pub mod Stored
-pub mod Shifts
-pub mod Comparing
-pub mod Running
 pub mod Searched

@@ -15,9 +15,9 @@ use Rattle.prepare.proofs.Fit.{tables-fit}
 use Rattle.tables.specs.Prepare.{table-refusals, Tables-left}
 use Rattle.tables.specs.Tables.{stored-order, Δ2, stored-Δ1}
 use Rattle.tables.specs.Prepare.{Tables-fit}
-use Rattle.matcher.specs.Run.{Run-ready, Run-outcome}
+use Rattle.steps.specs.Run.{Run-ready, Run-outcome}
 use Rattle.matcher.specs.Search.{search-status, search-answer, found-left, Search-outcome-of}
-use Rattle.matcher.specs.declared.run.Counts.{Counts}
+use Rattle.steps.specs.declared.Counts.{Counts}
 
 -- a search is taken
 pub record Search-fit (w t : List ℕ) (order : List ℤ) (delta2 delta1 found : List ℕ) : Type 0 where

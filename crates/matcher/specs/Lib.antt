@@ -1,5 +1,1 @@
-pub mod Steps
-pub mod Occurrences
 pub mod Search
-pub mod Promises
-pub mod Run

@@ -9,8 +9,8 @@ use Rattle.answers.specs.Buffers.{in-front}
 use Rattle.answers.specs.Refusals.{first-of, pattern-refusal, text-refusal, buffer-refusal}
 use Rattle.answers.specs.declared.Answer.{Answer}
 use Rattle.tables.specs.Prepare.{table-refusals, Tables-left}
-use Rattle.matcher.specs.Occurrences.{occurrences}
-use Rattle.matcher.specs.Steps.{comparisons}
+use Rattle.steps.specs.Occurrences.{occurrences}
+use Rattle.steps.specs.Steps.{comparisons}
 
 -- the status of searching: 4, 6, 7; n entries are needed for finds
 unfoldable pub search-status : (m n : ℕ) → (order delta2 delta1 found : ℕ) → ℕ

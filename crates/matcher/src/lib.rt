@@ -1,6 +1,4 @@
-// Colussi's search: the steps, the occurrences by their meaning and what is promised of them are in specs/.
-mod run;
-
+// Colussi's search as one call: the tables worked out anew, then the steps.
 use answers::Answer;
 ghost use mathlib.Core.Path.{_≡_};
 ghost use Rattle.matcher.specs.Search.{search-status, Search-outcome};
@@ -58,7 +56,7 @@ pub extern "C" fn search(
         };
     }
     prepare::write_tables(pattern, order, delta2, delta1);
-    let counts = run::run_steps(pattern, text, order, delta2, delta1, found);
+    let counts = steps::run_steps(pattern, text, order, delta2, delta1, found);
     Answer {
         status: 0,
         occurrences: counts.occurrences,

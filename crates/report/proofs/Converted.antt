@@ -10,15 +10,16 @@ use Rattle.answers.proofs.Fronts.{in-front-take}
 use Rattle.answers.proofs.Refusals.{Within-limits}
 use Rattle.answers.specs.Answers.{if-done}
 use Rattle.answers.specs.declared.Answer.{Answer}
-use Rattle.matcher.specs.Occurrences.{occurrences}
+use Rattle.steps.specs.Occurrences.{occurrences}
 use Rattle.matcher.specs.Search.{found-left}
-use Rattle.matcher.specs.Steps.{comparisons}
-use Rattle.converter.proofs.Holds.{length-frames, occurrences-few}
+use Rattle.steps.specs.Steps.{comparisons}
+use Rattle.frames.proofs.Holds.{length-frames, occurrences-few}
 use Rattle.converter.specs.Convert.{convert-status, convert-answer, Convert-outcome, Convert-outcome-of}
-use Rattle.converter.specs.Frames.{frames}
-use Rattle.converter.specs.Ones.{ones-of}
+use Rattle.frames.specs.Frames.{frames}
+use Rattle.ones.specs.Ones.{ones-of}
 use Rattle.report.proofs.Statuses.{convert-status-is}
-use Rattle.report.specs.Report.{report-lines, done-report}
+use Rattle.printer.specs.Printed.{report-lines}
+use Rattle.report.specs.Report.{done-report}
 
 pub record Converted (q : ℕ) (w t found' frame' : List ℕ) (r : Answer) : Type 0 where
   pub occurrence-count : r .occurrences ≡ length (occurrences w t)

@@ -17,7 +17,8 @@ use Rattle.job.specs.Job.{edition-in, m-in, q-in, n-in, good-line, good-lines, 
 use Rattle.report.proofs.Printed.{printed-refused}
 use Rattle.report.proofs.Statuses.{first-past}
 use Rattle.report.specs.Promises.{longest-file, Cut-right}
-use Rattle.report.specs.Report.{refused-report, seek-report}
+use Rattle.printer.specs.Printed.{refused-report}
+use Rattle.report.specs.Report.{seek-report}
 
 -- digits, and the number that they give, within the first n bytes
 all-digits-take : (c a n : ℕ) (bs : List ℕ) → a + c ≤ n → all-digits c a (take n bs) ≡ all-digits c a bs

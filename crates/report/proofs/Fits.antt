@@ -8,15 +8,15 @@ use native.Mathlib.Omega.{arith}
 use borrow.Author.Tests.{eqb-true, eqb-false}
 use lib.Dec.{eqb}
 use lib.ListN.{length}
-use Rattle.converter.proofs.Holds.{length-frames, occurrences-few}
-use Rattle.converter.specs.Frames.{frames}
-use Rattle.converter.specs.Ones.{ones-of}
+use Rattle.frames.proofs.Holds.{length-frames, occurrences-few}
+use Rattle.frames.specs.Frames.{frames}
+use Rattle.ones.specs.Ones.{ones-of}
 use Rattle.job.proofs.Lengths.{length-pattern, length-text}
 use Rattle.job.proofs.Taken.{taken}
 use Rattle.job.specs.Job.{file-status, q-in, pattern-in, text-in}
-use Rattle.matcher.specs.Occurrences.{occurrences}
-use Rattle.matcher.specs.Steps.{comparisons}
-use Rattle.report.proofs.Lines.{length-report-lines, length-refused}
+use Rattle.steps.specs.Occurrences.{occurrences}
+use Rattle.steps.specs.Steps.{comparisons}
+use Rattle.printer.proofs.Lines.{length-report-lines, length-refused}
 use Rattle.report.proofs.Printed.{printed-refused, printed-done}
 use Rattle.report.specs.Promises.{longest-report, Report-fits}
 use Rattle.report.specs.Report.{done-report, seek-report}

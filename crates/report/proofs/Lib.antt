@@ -1,5 +1,3 @@
-pub mod Lines
-pub mod Outcome
 pub mod Statuses
 pub mod Read
 pub mod Converted

@@ -5,7 +5,8 @@ use mathlib.Core.Path.{_≡_, refl}
 use Prim.Native.Nat.{ℕ, zero, suc}
 use Rattle.answers.specs.Answers.{if-done}
 use Rattle.job.specs.Job.{file-status, q-in, pattern-in, text-in}
-use Rattle.report.specs.Report.{done-report, refused-report, seek-report}
+use Rattle.printer.specs.Printed.{refused-report}
+use Rattle.report.specs.Report.{done-report, seek-report}
 
 refused-only : {A : Type 0} (s : ℕ) (d r : A) → (s ≡ 0 → ⊥) → if-done s d r ≡ r
 unfolding if-done

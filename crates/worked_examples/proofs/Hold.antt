@@ -9,12 +9,13 @@ use Rattle.job.specs.Job.{lines, first-line, job-file, edition-in, m-in, q-in, 
 use Rattle.tables.specs.Least.{least-from, all-from}
 use Rattle.tables.specs.Sets.{Neg}
 use Rattle.tables.specs.Tables.{h-min, k-min, r-min, period, second-group-from, second-group, third-group-from, third-group, order, stored-order, Δ1, Δ2}
-use Rattle.matcher.specs.Occurrences.{occurs, occurrences-from, all-occurrences, occurrences}
-use Rattle.matcher.specs.Promises.{bound}
-use Rattle.matcher.specs.Steps.{agreeing, align, step, alignments-from, alignments, compared, is-occurrence, comparisons-of, listed, comparisons}
-use Rattle.converter.specs.Frames.{with-holds, frames}
-use Rattle.converter.specs.Ones.{ones-of}
-use Rattle.report.specs.Report.{line, four-digit-lines, done-report, seek-report}
+use Rattle.steps.specs.Occurrences.{occurs, occurrences-from, all-occurrences, occurrences}
+use Rattle.steps.specs.Promises.{bound}
+use Rattle.steps.specs.Steps.{agreeing, align, step, alignments-from, alignments, compared, is-occurrence, comparisons-of, listed, comparisons}
+use Rattle.frames.specs.Frames.{with-holds, frames}
+use Rattle.ones.specs.Ones.{ones-of}
+use Rattle.printer.specs.Printed.{line, four-digit-lines}
+use Rattle.report.specs.Report.{done-report, seek-report}
 use Rattle.worked_examples.specs.Examples.{bytes, Holds, examples, All, All-hold}
 
 -- the first row's proof, then those of the rows below

@@ -10,10 +10,10 @@ use lib.ListN.{length, drop, replicate}
 use Rattle.job.specs.Job.{job-file}
 use Rattle.tables.specs.Sets.{byte}
 use Rattle.tables.specs.Tables.{period, stored-order, Δ1, Δ2}
-use Rattle.matcher.specs.Occurrences.{occurrences}
-use Rattle.matcher.specs.Promises.{bound}
-use Rattle.matcher.specs.Steps.{alignments, comparisons, listed}
-use Rattle.converter.specs.Ones.{ones-of}
+use Rattle.steps.specs.Occurrences.{occurrences}
+use Rattle.steps.specs.Promises.{bound}
+use Rattle.steps.specs.Steps.{alignments, comparisons, listed}
+use Rattle.ones.specs.Ones.{ones-of}
 use Rattle.report.specs.Report.{seek-report}
 
 -- what a row may claim of a pattern w (motif), a text t (chain) or a job file

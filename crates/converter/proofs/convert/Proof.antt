@@ -6,10 +6,11 @@ use native.Mathlib.Omega.{arith}
 use borrow.Author.Needs.{needs}
 use lib.ListN.{length, take}
 use lib.Seq.{length-take-le}
-use Rattle.matcher.specs.Occurrences.{occurrences}
+use Rattle.steps.specs.Occurrences.{occurrences}
+use Rattle.ones.proofs.Counted.{ones-counted}
 use Rattle.matcher.specs.Search.{Search-outcome-of}
 use Rattle.converter.proofs.Converted.{refused, part-found, counted, done}
-use Rattle.converter.proofs.Holds.{occurrence-inside, occurrences-few}
+use Rattle.frames.proofs.Holds.{occurrence-inside, occurrences-few}
 use Rattle.converter.proofs.Taken.{Taken, taken}
 use Rattle.converter.proofs.convert.Statement.{statement}
 use Rattle.converter.proofs.convert.Tie as tie
@@ -57,22 +58,10 @@ prefix c =
     let few = occurrences-few (args .pattern .now) (args .text .now) (omega arith) in
     (part-found (outcome c), omega (arith, counted (outcome c), c .search .kept))
 
-convert-status-requires : tie.Need-convert-status-requires
-convert-status-requires c κs = search needs
-
-refused-requires : tie.Need-refused-requires
-refused-requires c κs = search needs
-
 returns : tie.Need-returns
 returns c =
-    rw (c .refused .ensures, ← c .before .before .convert-status .ensures)
+    rw (c .status-only .ensures, ← c .before .before .convert-status .ensures)
     (refused _ (c .before .if1 .taken))
-
-search-requires : tie.Need-search-requires
-search-requires c κs = search needs
-
-cast-h : tie.Need-cast-h
-cast-h c = search needs
 
 write-moves-requires : tie.Need-write-moves-requires
 write-moves-requires c κs = in-limits (measured (searched c)) .frames-room
@@ -92,50 +81,33 @@ mark-holds-requires c κs i h =
     let inside = occurrence-inside (args .pattern .now) (args .text .now) i (rw (prefix at .0) at h) in
     rw (prefix at .0) (omega arith)
 
-ones-of-requires : tie.Need-ones-of-requires
-ones-of-requires c κs = in-limits (measured (searched (moved (marked c)))) .limits .text
-
-same-length : tie.Need-same-length
-same-length c = search needs
-
-same-length-2 : tie.Need-same-length-2
-same-length-2 c = search needs
-
-same-length-3 : tie.Need-same-length-3
-same-length-3 c = search needs
-
-same-length-4 : tie.Need-same-length-4
-same-length-4 c = search needs
-
-same-length-5 : tie.Need-same-length-5
-same-length-5 c = search needs
-
 returns-2 : tie.Need-returns-2
 returns-2 c =
     let held = marked (c .before) in
     let at = searched (moved held) in
     let past = measured at in
+    let limits = in-limits past .limits in
     rw (← past .before .convert-status .ensures, past .if1 .left)
-    (done (outcome at) (in-limits past .limits .hold) (c .ones-of .ensures)
+    (done (outcome at) (limits .hold) (rw (c .count-ones .ensures) (ones-counted _ (limits .text)))
     (rw (← held .before .before .write-moves .ensures) (c .before .before .before .mark-holds .ensures)))
 
 pub convert-spec : {M : Type 1} → statement M
 convert-spec =
     tie.close
     (tie.spec
-    convert-status-requires
-    refused-requires
+    (λ c κs. search needs)
+    (λ c κs. search needs)
     returns
-    search-requires
-    cast-h
+    (λ c κs. search needs)
+    (λ c. search needs)
     write-moves-requires
     slice-reshare-prefix-mark-holds
     slice-aggregate-mark-holds
     mark-holds-requires
-    ones-of-requires
-    same-length
-    same-length-2
-    same-length-3
-    same-length-4
-    same-length-5
+    (λ c κs. search needs)
+    (λ c. search needs)
+    (λ c. search needs)
+    (λ c. search needs)
+    (λ c. search needs)
+    (λ c. search needs)
     returns-2)

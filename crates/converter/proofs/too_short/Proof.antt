@@ -42,15 +42,6 @@ refusals c =
     rw (four c, three (c .before), two (c .before .before))
     (one-number (ltb (a .order) (a .m + 1)) (ltb (a .delta2) (a .m + 1)) (ltb (a .delta1) (256 * a .m)) (ltb (a .found) (a .n)) 7 _)
 
-add-if1 : tie.Need-add-if1
-add-if1 c = search needs
-
-add-if2 : tie.Need-add-if2
-add-if2 c = search needs
-
-mul-if3 : tie.Need-mul-if3
-mul-if3 c = search needs
-
 returns : tie.Need-returns
 returns c = rw (refusals (c .before), c .if4 .taken)
 
@@ -58,4 +49,4 @@ returns-2 : tie.Need-returns-2
 returns-2 c = rw (refusals (c .before), c .if4 .left)
 
 pub too-short-spec : {M : Type 1} → statement M
-too-short-spec = tie.close (tie.spec add-if1 add-if2 mul-if3 returns returns-2)
+too-short-spec = tie.close (tie.spec (λ c. search needs) (λ c. search needs) (λ c. search needs) returns returns-2)

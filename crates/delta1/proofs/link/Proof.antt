@@ -36,14 +36,8 @@ at-end c =
     let sum = end-entry w (byte w i) i end (loop .table) (λ x. loop .inv .4 .ends (byte w i) x byte-fits) (omega arith) (omega arith) in
     (byte-fits, omega arith, sum)
 
-sub-i-end : tie.Need-sub-i-end Inv-loop μ-loop
-sub-i-end c = omega arith
-
 loop-holds : tie.Need-loop-holds Inv-loop μ-loop
 loop-holds c = (omega arith, refl, refl, λ i h. absurd (omega arith), c .pre .1)
-
-shared-slice-read-end : tie.Need-shared-slice-read-end Inv-loop μ-loop
-shared-slice-read-end c = omega arith
 
 cast-end : tie.Need-cast-end Inv-loop μ-loop
 cast-end c = omega (arith, at-end c)
@@ -72,32 +66,14 @@ sub-last c = omega (arith, at-end (c .before))
 cast-last-2 : tie.Need-cast-last-2 Inv-loop μ-loop
 cast-last-2 c = omega (arith, at-end (c .before))
 
-add-last : tie.Need-add-last Inv-loop μ-loop
-add-last c = omega arith
-
 slice-write-last : tie.Need-slice-write-last Inv-loop μ-loop
 slice-write-last c = omega (arith, at-end (c .before))
-
-sub-table : tie.Need-sub-table Inv-loop μ-loop
-sub-table c = omega arith
-
-sub-table-2 : tie.Need-sub-table-2 Inv-loop μ-loop
-sub-table-2 c = omega arith
-
-cast-table : tie.Need-cast-table Inv-loop μ-loop
-cast-table c = omega arith
 
 mul-table : tie.Need-mul-table Inv-loop μ-loop
 mul-table c = omega (arith, at-end (c .before))
 
 slice-write-table : tie.Need-slice-write-table Inv-loop μ-loop
 slice-write-table c = omega (arith, at-end (c .before))
-
-add-i : tie.Need-add-i Inv-loop μ-loop
-add-i c = omega arith
-
-loop-less : tie.Need-loop-less Inv-loop μ-loop
-loop-less c = omega arith
 
 loop-again : tie.Need-loop-again Inv-loop μ-loop
 loop-again c =
@@ -113,12 +89,6 @@ loop-again c =
       end-added w (at .i) _ (at .table) (at .inv .4) (omega arith) (omega arith) (omega arith),
     )
 
-same-length : tie.Need-same-length Inv-loop μ-loop
-same-length c = omega arith
-
-same-length-2 : tie.Need-same-length-2 Inv-loop μ-loop
-same-length-2 c = omega arith
-
 returns : tie.Need-returns Inv-loop μ-loop
 returns c =
     let m = length (c .before .before .args .pattern .now) in
@@ -131,9 +101,9 @@ link-spec =
     (tie.spec
     Inv-loop
     μ-loop
-    sub-i-end
+    (λ c. omega arith)
     loop-holds
-    shared-slice-read-end
+    (λ c. omega arith)
     cast-end
     mul-end
     add-end
@@ -143,16 +113,16 @@ link-spec =
     cast-last
     sub-last
     cast-last-2
-    add-last
+    (λ c. omega arith)
     slice-write-last
-    sub-table
-    sub-table-2
-    cast-table
+    (λ c. omega arith)
+    (λ c. omega arith)
+    (λ c. omega arith)
     mul-table
     slice-write-table
-    add-i
-    loop-less
+    (λ c. omega arith)
+    (λ c. omega arith)
     loop-again
-    same-length
-    same-length-2
+    (λ c. omega arith)
+    (λ c. omega arith)
     returns)

@@ -44,42 +44,6 @@ module _ (v row : List ℕ) (s n : ℕ) (within : n + s + 1 ≡ length row) (roo
   past-test : (i : ℕ) → true ≡ allows v (length row) s (n + i + 1)
   past-test i = rw (le-leb (length row) (n + i + 1 + s) (omega arith))
 
-sub-front : tie.Need-sub-front
-sub-front c = search needs
-
-sub-front-2 : tie.Need-sub-front-2
-sub-front-2 c = search needs
-
-add-lower-where-equal : tie.Need-add-lower-where-equal
-add-lower-where-equal c = search needs
-
-sub-lower-where-equal : tie.Need-sub-lower-where-equal
-sub-lower-where-equal c = search needs
-
-part-lower-where-equal-start : tie.Need-part-lower-where-equal-start
-part-lower-where-equal-start c = search needs
-
-part-lower-where-equal-end : tie.Need-part-lower-where-equal-end
-part-lower-where-equal-end c = search needs
-
-add-lower-where-equal-2 : tie.Need-add-lower-where-equal-2
-add-lower-where-equal-2 c = search needs
-
-sub-lower-where-equal-2 : tie.Need-sub-lower-where-equal-2
-sub-lower-where-equal-2 c = search needs
-
-part-lower-where-equal-start-2 : tie.Need-part-lower-where-equal-start-2
-part-lower-where-equal-start-2 c = search needs
-
-part-lower-where-equal-end-2 : tie.Need-part-lower-where-equal-end-2
-part-lower-where-equal-end-2 c = search needs
-
-cast-lower-where-equal : tie.Need-cast-lower-where-equal
-cast-lower-where-equal c = search needs
-
-slice-relend-prefix-lower-where-equal : tie.Need-slice-relend-prefix-lower-where-equal
-slice-relend-prefix-lower-where-equal c = search needs
-
 slice-aggregate-lower-where-equal : tie.Need-slice-aggregate-lower-where-equal
 slice-aggregate-lower-where-equal c = simp length-take (omega arith)
 
@@ -93,27 +57,6 @@ lower-where-equal-requires c κs =
     let first = bytes-length v row (a .shift) n (omega arith) (omega arith) in
     let second = others-length v row (a .shift) n (omega arith) (omega arith) in
     (omega arith, omega arith)
-
-cast-lower : tie.Need-cast-lower
-cast-lower c = search needs
-
-mul-lower : tie.Need-mul-lower
-mul-lower c = search needs
-
-sub-lower : tie.Need-sub-lower
-sub-lower c = search needs
-
-part-lower-start : tie.Need-part-lower-start
-part-lower-start c = search needs
-
-part-lower-end : tie.Need-part-lower-end
-part-lower-end c = search needs
-
-lower-requires : tie.Need-lower-requires
-lower-requires c κs = search needs
-
-same-length : tie.Need-same-length
-same-length c = search needs
 
 returns : tie.Need-returns
 returns c =
@@ -134,25 +77,25 @@ pub lower-row-spec : {M : Type 1} → statement M
 lower-row-spec =
     tie.close
     (tie.spec
-    sub-front
-    sub-front-2
-    add-lower-where-equal
-    sub-lower-where-equal
-    part-lower-where-equal-start
-    part-lower-where-equal-end
-    add-lower-where-equal-2
-    sub-lower-where-equal-2
-    part-lower-where-equal-start-2
-    part-lower-where-equal-end-2
-    cast-lower-where-equal
-    slice-relend-prefix-lower-where-equal
+    (λ c. search needs)
+    (λ c. search needs)
+    (λ c. search needs)
+    (λ c. search needs)
+    (λ c. search needs)
+    (λ c. search needs)
+    (λ c. search needs)
+    (λ c. search needs)
+    (λ c. search needs)
+    (λ c. search needs)
+    (λ c. search needs)
+    (λ c. search needs)
     slice-aggregate-lower-where-equal
     lower-where-equal-requires
-    cast-lower
-    mul-lower
-    sub-lower
-    part-lower-start
-    part-lower-end
-    lower-requires
-    same-length
+    (λ c. search needs)
+    (λ c. search needs)
+    (λ c. search needs)
+    (λ c. search needs)
+    (λ c. search needs)
+    (λ c κs. search needs)
+    (λ c. search needs)
     returns)

@@ -20,29 +20,8 @@ abbrev μ-loop : tie.MeasureT-loop
 loop-holds : tie.Need-loop-holds Inv-loop μ-loop
 loop-holds c = (omega arith, changed-none _ _)
 
-sub-reversed : tie.Need-sub-reversed Inv-loop μ-loop
-sub-reversed c = omega arith
-
-sub-reversed-2 : tie.Need-sub-reversed-2 Inv-loop μ-loop
-sub-reversed-2 c = omega arith
-
-shared-slice-read-reversed : tie.Need-shared-slice-read-reversed Inv-loop μ-loop
-shared-slice-read-reversed c = omega arith
-
-slice-write-reversed : tie.Need-slice-write-reversed Inv-loop μ-loop
-slice-write-reversed c = omega arith
-
-add-i : tie.Need-add-i Inv-loop μ-loop
-add-i c = omega arith
-
-loop-less : tie.Need-loop-less Inv-loop μ-loop
-loop-less c = omega arith
-
 loop-again : tie.Need-loop-again Inv-loop μ-loop
 loop-again c = (omega arith, changed-more _ _ _ (c .before .before .loop .inv .1) (omega arith) refl)
-
-same-length : tie.Need-same-length Inv-loop μ-loop
-same-length c = omega arith
 
 returns : tie.Need-returns Inv-loop μ-loop
 returns c x i e =
@@ -57,12 +36,12 @@ reverse-spec =
     Inv-loop
     μ-loop
     loop-holds
-    sub-reversed
-    sub-reversed-2
-    shared-slice-read-reversed
-    slice-write-reversed
-    add-i
-    loop-less
+    (λ c. omega arith)
+    (λ c. omega arith)
+    (λ c. omega arith)
+    (λ c. omega arith)
+    (λ c. omega arith)
+    (λ c. omega arith)
     loop-again
-    same-length
+    (λ c. omega arith)
     returns)

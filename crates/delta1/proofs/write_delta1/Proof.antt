@@ -8,20 +8,11 @@ use borrow.Author.Needs.{needs}
 use Rattle.delta1.proofs.write_delta1.Statement.{statement}
 use Rattle.delta1.proofs.write_delta1.Tie as tie
 
-mul-count : tie.Need-mul-count
-mul-count c = search needs
-
-slice-relend-prefix-write-table : tie.Need-slice-relend-prefix-write-table
-slice-relend-prefix-write-table c = search needs
-
 slice-aggregate-write-table : tie.Need-slice-aggregate-write-table
 slice-aggregate-write-table c = simp length-take (omega arith)
 
 write-table-requires : tie.Need-write-table-requires
 write-table-requires c κs = simp length-take (omega arith)
-
-same-length : tie.Need-same-length
-same-length c = search needs
 
 returns : tie.Need-returns
 unfolding in-front
@@ -31,9 +22,9 @@ pub write-delta1-spec : {M : Type 1} → statement M
 write-delta1-spec =
     tie.close
     (tie.spec
-    mul-count
-    slice-relend-prefix-write-table
+    (λ c. search needs)
+    (λ c. search needs)
     slice-aggregate-write-table
     write-table-requires
-    same-length
+    (λ c. search needs)
     returns)

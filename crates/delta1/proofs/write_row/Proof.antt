@@ -33,22 +33,10 @@ next-link c =
     rw (one-up, loop .inv .next-has j (sym one-up)) at (start .pre .linked j (omega arith)) in
     (link, omega (arith, last-within w (byte w (start .args .position)) j))
 
-add-at : tie.Need-add-at Inv-loop μ-loop
-add-at c = omega arith
-
 loop-holds : tie.Need-loop-holds Inv-loop μ-loop
 loop-holds c =
     let start = c .before .before .before .before in
     row-first _ _ _ _ (start .pre .within) (start .pre .entries) (start .pre .is-last) (start .pre .begun)
-
-sub-lower-row : tie.Need-sub-lower-row Inv-loop μ-loop
-sub-lower-row c = omega arith
-
-lower-row-requires : tie.Need-lower-row-requires Inv-loop μ-loop
-lower-row-requires c κs = omega arith
-
-shared-slice-read-at : tie.Need-shared-slice-read-at Inv-loop μ-loop
-shared-slice-read-at c = omega arith
 
 cast-at : tie.Need-cast-at Inv-loop μ-loop
 cast-at c = omega (arith, next-link c)
@@ -67,9 +55,6 @@ loop-again c =
     (loop .inv)
     (c .before .before .before .lower-row .ensures))
 
-same-length : tie.Need-same-length Inv-loop μ-loop
-same-length c = omega arith
-
 returns : tie.Need-returns Inv-loop μ-loop
 returns c =
     let done : c .before .loop .at ≡ 0 = omega arith in
@@ -81,13 +66,13 @@ write-row-spec =
     (tie.spec
     Inv-loop
     μ-loop
-    add-at
+    (λ c. omega arith)
     loop-holds
-    sub-lower-row
-    lower-row-requires
-    shared-slice-read-at
+    (λ c. omega arith)
+    (λ c κs. omega arith)
+    (λ c. omega arith)
     cast-at
     loop-less
     loop-again
-    same-length
+    (λ c. omega arith)
     returns)

@@ -29,16 +29,10 @@ row-within c =
     let byte-fits : byte w i < 256 = omega (arith, c .shared-slice-known4 .given i) in
     (byte-fits, row-end (length w) (byte w i) 256 byte-fits)
 
-sub-i-end : tie.Need-sub-i-end Inv-loop μ-loop
-sub-i-end c = omega arith
-
 loop-holds : tie.Need-loop-holds Inv-loop μ-loop
 loop-holds c =
     let start = c .before .before .before .before in
     (omega arith, table-first _ _ (start .pre .sizes .entries) (start .pre .ends))
-
-shared-slice-read-start : tie.Need-shared-slice-read-start Inv-loop μ-loop
-shared-slice-read-start c = omega arith
 
 cast-start : tie.Need-cast-start Inv-loop μ-loop
 cast-start c = omega (arith, row-within c)
@@ -63,12 +57,6 @@ cast-if1 c =
     let w = c .before .before .before .before .before .before .before .before .args .pattern .now in
     omega (arith, c .slice-known2 .given (byte w (c .before .before .before .loop .i) * length w + length w - 1))
 
-sub-if1-2 : tie.Need-sub-if1-2 Inv-loop μ-loop
-sub-if1-2 c = omega arith
-
-sub-if1-3 : tie.Need-sub-if1-3 Inv-loop μ-loop
-sub-if1-3 c = omega arith
-
 mul-write-row : tie.Need-mul-write-row Inv-loop μ-loop
 mul-write-row c = omega (arith, row-within (c .before .before))
 
@@ -92,12 +80,6 @@ write-row-requires c κs =
     (start .pre)
     (c .before .if1 .taken)
 
-add-i : tie.Need-add-i Inv-loop μ-loop
-add-i c = omega arith
-
-loop-less : tie.Need-loop-less Inv-loop μ-loop
-loop-less c = omega arith
-
 loop-again : tie.Need-loop-again Inv-loop μ-loop
 loop-again c =
     let w = c .before .before .before .before .before .before .before .before .before .args .pattern .now in
@@ -116,9 +98,6 @@ loop-again c =
           (c .if1 .came),
     )
 
-same-length : tie.Need-same-length Inv-loop μ-loop
-same-length c = omega arith
-
 returns : tie.Need-returns Inv-loop μ-loop
 returns c =
     let w = c .before .before .before .before .before .before .args .pattern .now in
@@ -131,9 +110,9 @@ write-rows-spec =
     (tie.spec
     Inv-loop
     μ-loop
-    sub-i-end
+    (λ c. omega arith)
     loop-holds
-    shared-slice-read-start
+    (λ c. omega arith)
     cast-start
     mul-start
     add-end
@@ -141,15 +120,15 @@ write-rows-spec =
     mul-if1
     slice-read-if1
     cast-if1
-    sub-if1-2
-    sub-if1-3
+    (λ c. omega arith)
+    (λ c. omega arith)
     mul-write-row
     sub-write-row
     part-write-row-start
     part-write-row-end
     write-row-requires
-    add-i
-    loop-less
+    (λ c. omega arith)
+    (λ c. omega arith)
     loop-again
-    same-length
+    (λ c. omega arith)
     returns)

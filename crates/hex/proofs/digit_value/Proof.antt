@@ -7,9 +7,6 @@ use Rattle.hex.proofs.Parse.{refused, taken}
 use Rattle.hex.proofs.digit_value.Statement.{statement}
 use Rattle.hex.proofs.digit_value.Tie as tie
 
-sub-t5 : tie.Need-sub-t5
-sub-t5 c = search needs
-
 returns : tie.Need-returns
 returns c = taken _ _ _ (decimal _ (omega arith) (omega arith)) (decimal-value _ (omega arith))
 
@@ -26,4 +23,4 @@ returns-5 : tie.Need-returns-5
 returns-5 c = refused _ _ (above-digits _ (omega arith))
 
 pub digit-value-spec : {M : Type 1} → statement M
-digit-value-spec = tie.close (tie.spec sub-t5 returns returns-2 returns-3 returns-4 returns-5)
+digit-value-spec = tie.close (tie.spec (λ c. search needs) returns returns-2 returns-3 returns-4 returns-5)

@@ -6,9 +6,6 @@ use Rattle.matcher.proofs.Searched.{Search-fit, search-fit, refused, ru
 use Rattle.matcher.proofs.search.Statement.{statement}
 use Rattle.matcher.proofs.search.Tie as tie
 
-search-status-requires : tie.Need-search-status-requires
-search-status-requires c κs = search needs
-
 returns : tie.Need-returns
 returns c = rw (← (c .before .search-status .ensures)) (refused (c .before .search-status .result) (c .if1 .taken))
 
@@ -26,18 +23,6 @@ run-steps-requires c κs =
     let d = c .before .before .before .before .before .before .before .before .before in
     run-ready (d .write-tables .ensures) (fit (d .before .before .before .before))
 
-same-length : tie.Need-same-length
-same-length c = search needs
-
-same-length-2 : tie.Need-same-length-2
-same-length-2 c = search needs
-
-same-length-3 : tie.Need-same-length-3
-same-length-3 c = search needs
-
-same-length-4 : tie.Need-same-length-4
-same-length-4 c = search needs
-
 returns-2 : tie.Need-returns-2
 returns-2 c =
     let d = c .before .before .before .before .before .before .before .before .before .before .before .before in
@@ -48,12 +33,12 @@ pub search-spec : {M : Type 1} → statement M
 search-spec =
     tie.close
     (tie.spec
-    search-status-requires
+    (λ c κs. search needs)
     returns
     write-tables-requires
     run-steps-requires
-    same-length
-    same-length-2
-    same-length-3
-    same-length-4
+    (λ c. search needs)
+    (λ c. search needs)
+    (λ c. search needs)
+    (λ c. search needs)
     returns-2)

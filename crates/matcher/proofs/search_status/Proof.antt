@@ -35,9 +35,6 @@ returns-2 c = simp (pattern-passed (c .before), lt-ltb _ _ (c .if3 .taken))
 add-if4 : tie.Need-add-if4
 add-if4 c = omega (arith, ltb-false)
 
-add-if5 : tie.Need-add-if5
-add-if5 c = search needs
-
 mul-if6 : tie.Need-mul-if6
 mul-if6 c = omega (arith, ltb-false)
 
@@ -59,4 +56,4 @@ returns-4 c =
 
 pub search-status-spec : {M : Type 1} → statement M
 search-status-spec =
-    tie.close (tie.spec returns returns-2 add-if4 add-if5 mul-if6 returns-3 returns-4)
+    tie.close (tie.spec returns returns-2 add-if4 (λ c. search needs) mul-if6 returns-3 returns-4)

@@ -19,18 +19,6 @@ in-buffer : {w : List ℕ} {order' : List ℤ} → Taken w → (order : List ℤ
 in-buffer {w} taken order e =
     record { taken = taken; stored = rw e (in-front-take (stored-order w) order (length w + 1) (stored-order-length w (taken .some))) }
 
-h-min-table-requires : tie.Need-h-min-table-requires
-h-min-table-requires c κs = search needs
-
-k-min-table-requires : tie.Need-k-min-table-requires
-k-min-table-requires c κs = search needs
-
-r-min-table-requires : tie.Need-r-min-table-requires
-r-min-table-requires c κs = search needs
-
-write-order-requires : tie.Need-write-order-requires
-write-order-requires c κs = search needs
-
 write-delta2-requires : tie.Need-write-delta2-requires
 write-delta2-requires c κs =
     let ordered = c .before .before .before .before .before in
@@ -41,12 +29,6 @@ write-delta2-requires c κs =
       (reached .k-min-table .ensures, (periods .r-min-table .ensures, given .1 .1)),
     )
 
-same-length : tie.Need-same-length
-same-length c = search needs
-
-same-length-2 : tie.Need-same-length-2
-same-length-2 c = search needs
-
 returns : tie.Need-returns
 returns c =
     let shifts = c .before .before in
@@ -56,11 +38,11 @@ pub write-order-and-delta2-spec : {M : Type 1} → statement M
 write-order-and-delta2-spec =
     tie.close
     (tie.spec
-    h-min-table-requires
-    k-min-table-requires
-    r-min-table-requires
-    write-order-requires
+    (λ c κs. search needs)
+    (λ c κs. search needs)
+    (λ c κs. search needs)
+    (λ c κs. search needs)
     write-delta2-requires
-    same-length
-    same-length-2
+    (λ c. search needs)
+    (λ c. search needs)
     returns)

@@ -18,22 +18,10 @@ unfolding if-done
 untouched zero w order delta2 delta1 h = absurd (h refl)
 untouched (suc s) w order delta2 delta1 h = record { order-left = refl; delta2-left = refl; delta1-left = refl }
 
-prepare-status-requires : tie.Need-prepare-status-requires
-prepare-status-requires c κs = search needs
-
 write-tables-requires : tie.Need-write-tables-requires
 write-tables-requires c κs =
     let chosen = c .before .before .before in
     prepared-fit _ _ _ _ (sym (chosen .before .prepare-status .ensures) ∙ chosen .if1 .taken)
-
-same-length : tie.Need-same-length
-same-length c = search needs
-
-same-length-2 : tie.Need-same-length-2
-same-length-2 c = search needs
-
-same-length-3 : tie.Need-same-length-3
-same-length-3 c = search needs
 
 returns : tie.Need-returns
 returns c =
@@ -51,10 +39,10 @@ pub prepare-spec : {M : Type 1} → statement M
 prepare-spec =
     tie.close
     (tie.spec
-    prepare-status-requires
+    (λ c κs. search needs)
     write-tables-requires
-    same-length
-    same-length-2
-    same-length-3
+    (λ c. search needs)
+    (λ c. search needs)
+    (λ c. search needs)
     returns
     returns-2)

@@ -22,9 +22,6 @@ returns c = ⊎-elim (λ t. simp (eq-eqb _ _ (t .taken))) (λ t. simp (ne-eqb _ 
 add-if3 : tie.Need-add-if3
 add-if3 c = omega (arith, ltb-false)
 
-add-if4 : tie.Need-add-if4
-add-if4 c = search needs
-
 mul-if5 : tie.Need-mul-if5
 mul-if5 c = omega (arith, ltb-false)
 
@@ -43,4 +40,4 @@ unfolding prepare-status table-refusals first-of
 returns-3 c = simp (pattern-passed (c .before .before .before), le-ltb _ _ (c .before .before .if3 .left), c .before .if4 .left, c .if5 .left)
 
 pub prepare-status-spec : {M : Type 1} → statement M
-prepare-status-spec = tie.close (tie.spec returns add-if3 add-if4 mul-if5 returns-2 returns-3)
+prepare-status-spec = tie.close (tie.spec returns add-if3 (λ c. search needs) mul-if5 returns-2 returns-3)

@@ -2,7 +2,7 @@
 -- Assumes nothing.
 use native.Mathlib.Omega.{arith}
 use borrow.Author.Needs.{needs}
-use Rattle.converter.proofs.Holds.{length-frames}
+use Rattle.frames.proofs.Holds.{length-frames}
 use Rattle.report.proofs.Converted.{Converted, converted, report-of}
 use Rattle.report.proofs.report_taken.Statement.{statement}
 use Rattle.report.proofs.report_taken.Tie as tie
@@ -21,9 +21,6 @@ slice-aggregate-convert-4 c = search needs
 
 slice-aggregate-convert-5 : tie.Need-slice-aggregate-convert-5
 slice-aggregate-convert-5 c = search needs
-
-convert-requires : tie.Need-convert-requires
-convert-requires c κs = search needs
 
 -- what the conversion leaves
 left : (c : tie.After-convert)
@@ -44,9 +41,6 @@ left c =
     (slice-aggregate-convert-4 c₄)
     (slice-aggregate-convert-5 c₅)
 
-cast-h : tie.Need-cast-h
-cast-h c = search needs
-
 array-share-prefix-found : tie.Need-array-share-prefix-found
 array-share-prefix-found c = omega (arith, left (c .before .before .before .before .before .before))
 
@@ -54,9 +48,6 @@ slice-aggregate-write-done : tie.Need-slice-aggregate-write-done
 slice-aggregate-write-done c =
     let l = left (c .before .before .before .before .before .before .before) in
     rw (l .occurrences-there) (l .occurrence-count)
-
-array-share-prefix-frames : tie.Need-array-share-prefix-frames
-array-share-prefix-frames c = search needs
 
 slice-aggregate-write-done-2 : tie.Need-slice-aggregate-write-done-2
 slice-aggregate-write-done-2 c =
@@ -70,9 +61,6 @@ write-done-requires c κs =
     let frames-size = slice-aggregate-write-done-2 at in
     let c₀ = at .before .before .before .before .before .before .before .before in
     omega (arith, left c₀, c₀ .before)
-
-same-length : tie.Need-same-length
-same-length c = search needs
 
 returns : tie.Need-returns
 returns c =
@@ -88,12 +76,12 @@ report-taken-spec =
     slice-aggregate-convert-3
     slice-aggregate-convert-4
     slice-aggregate-convert-5
-    convert-requires
-    cast-h
+    (λ c κs. search needs)
+    (λ c. search needs)
     array-share-prefix-found
     slice-aggregate-write-done
-    array-share-prefix-frames
+    (λ c. search needs)
     slice-aggregate-write-done-2
     write-done-requires
-    same-length
+    (λ c. search needs)
     returns)

@@ -15,9 +15,6 @@ slice-aggregate-read-job c = search needs
 slice-aggregate-read-job-2 : tie.Need-slice-aggregate-read-job-2
 slice-aggregate-read-job-2 c = search needs
 
-read-job-requires : tie.Need-read-job-requires
-read-job-requires c κs = search needs
-
 -- the status of the file, and the job that was read where it is 0
 status : (c : tie.After-read-job) → c .read-job .result .answer .status ≡ file-status (c .before .before .before .before .before .args .file .now)
 status c = status-read (c .read-job .ensures) (slice-aggregate-read-job (c .before .before)) (slice-aggregate-read-job-2 (c .before))
@@ -29,24 +26,12 @@ read c =
     let at = c .before .before .before in
     job-read (at .read-job .ensures) (slice-aggregate-read-job (at .before .before)) (slice-aggregate-read-job-2 (at .before)) (c .if1 .left)
 
-write-refused-requires : tie.Need-write-refused-requires
-write-refused-requires c κs = search needs
-
-same-length : tie.Need-same-length
-same-length c = search needs
-
 returns : tie.Need-returns
 returns c =
     let call = c .before .before in
     let refused = call .before .before in
     let e = status (refused .before .before .before) in
     rw (printed-refused _ (λ z. refused .if1 .taken (e ∙ z)), ← e) (call .write-refused .ensures)
-
-cast-m : tie.Need-cast-m
-cast-m c = search needs
-
-cast-n : tie.Need-cast-n
-cast-n c = search needs
 
 array-share-prefix-pattern : tie.Need-array-share-prefix-pattern
 array-share-prefix-pattern c = omega (arith, read (c .before .before))
@@ -69,9 +54,6 @@ report-taken-requires c κs =
     let r = read (c .before .before .before .before .before) in
     rw (r .job .pattern, r .job .text) (omega (arith, r))
 
-same-length-2 : tie.Need-same-length-2
-same-length-2 c = search needs
-
 returns-2 : tie.Need-returns-2
 returns-2 c =
     let r = read (c .before .before .before .before .before .before .before .before) in
@@ -83,16 +65,16 @@ seek-report-spec =
     (tie.spec
     slice-aggregate-read-job
     slice-aggregate-read-job-2
-    read-job-requires
-    write-refused-requires
-    same-length
+    (λ c κs. search needs)
+    (λ c κs. search needs)
+    (λ c. search needs)
     returns
-    cast-m
-    cast-n
+    (λ c. search needs)
+    (λ c. search needs)
     array-share-prefix-pattern
     slice-aggregate-report-taken
     array-share-prefix-text
     slice-aggregate-report-taken-2
     report-taken-requires
-    same-length-2
+    (λ c. search needs)
     returns-2)

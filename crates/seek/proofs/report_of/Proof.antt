@@ -5,17 +5,8 @@ use borrow.Author.Needs.{needs}
 use Rattle.seek.proofs.report_of.Statement.{statement}
 use Rattle.seek.proofs.report_of.Tie as tie
 use Rattle.report.proofs.Fits.{report-fits}
-use Rattle.report.proofs.Outcome.{reported}
+use Rattle.printer.proofs.Outcome.{reported}
 use Rattle.report.specs.Promises.{Report-fits}
-
-seek-report-requires : tie.Need-seek-report-requires
-seek-report-requires c κs = search needs
-
-cast-result : tie.Need-cast-result
-cast-result c = search needs
-
-same-length : tie.Need-same-length
-same-length c = search needs
 
 returns : tie.Need-returns
 unfolding Report-fits
@@ -27,4 +18,4 @@ returns c =
     ((omega arith, rw (r .there) (r .size)), r .there)
 
 pub report-of-spec : {M : Type 1} → statement M
-report-of-spec = tie.close (tie.spec seek-report-requires cast-result same-length returns)
+report-of-spec = tie.close (tie.spec (λ c κs. search needs) (λ c. search needs) (λ c. search needs) returns)

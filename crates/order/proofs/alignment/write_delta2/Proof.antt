@@ -113,14 +113,8 @@ Inv-loop pattern order k-min r-min delta2₀ m i₀ delta2 i = Begun pattern del
 abbrev μ-loop : tie.MeasureT-loop
 μ-loop pattern order k-min r-min delta2₀ m i₀ delta2 i = length pattern - i
 
-slice-write-delta2 : tie.Need-slice-write-delta2 Inv-loop μ-loop
-slice-write-delta2 c = omega arith
-
 loop-holds : tie.Need-loop-holds Inv-loop μ-loop
 loop-holds c = record { low = omega arith; high = omega arith; written = none-written 1 _ _ (simp length-set (omega arith)) }
-
-mul-h : tie.Need-mul-h Inv-loop μ-loop
-mul-h c = omega arith
 
 shared-slice-copy-out-h : tie.Need-shared-slice-copy-out-h Inv-loop μ-loop
 shared-slice-copy-out-h c =
@@ -152,9 +146,6 @@ mul-delta2 c = mul-k (c .before .before)
 element-copy-out-delta2 : tie.Need-element-copy-out-delta2 Inv-loop μ-loop
 element-copy-out-delta2 c = element-copy-out-k (c .before .before)
 
-mul-delta2-2 : tie.Need-mul-delta2-2 Inv-loop μ-loop
-mul-delta2-2 c = omega arith
-
 -- the buffer has its length
 kept :
     (c : tie.At-loop Inv-loop μ-loop) → length (c .loop .delta2) ≡ length (c .before .args .delta2 .now)
@@ -165,12 +156,6 @@ kept c =
 slice-write-delta2-2 : tie.Need-slice-write-delta2-2 Inv-loop μ-loop
 slice-write-delta2-2 c = omega (arith, kept (c .before .before .before .before))
 
-add-i : tie.Need-add-i Inv-loop μ-loop
-add-i c = omega arith
-
-loop-less : tie.Need-loop-less Inv-loop μ-loop
-loop-less c = omega arith
-
 loop-again : tie.Need-loop-again Inv-loop μ-loop
 loop-again c =
     let (s, (km, (rm, room))) = c .before .before .before .before .before .pre in
@@ -178,12 +163,6 @@ loop-again c =
     store (s .taken) r (simp length-set (omega arith)) _ (omega arith)
     (shift-is s km rm _ (r .low) (omega arith) _
     (⊎-elim (λ t. inl (t .0 .taken, t .1)) (λ t. inr (t .0 .left, t .2)) (c .if1 .came)))
-
-element-copy-out-delta2-2 : tie.Need-element-copy-out-delta2-2 Inv-loop μ-loop
-element-copy-out-delta2-2 c = omega arith
-
-mul-delta2-3 : tie.Need-mul-delta2-3 Inv-loop μ-loop
-mul-delta2-3 c = omega arith
 
 slice-write-delta2-3 : tie.Need-slice-write-delta2-3 Inv-loop μ-loop
 slice-write-delta2-3 c = omega (arith, kept (c .before .before))
@@ -205,22 +184,22 @@ write-delta2-spec =
     (tie.spec
     Inv-loop
     μ-loop
-    slice-write-delta2
+    (λ c. omega arith)
     loop-holds
-    mul-h
+    (λ c. omega arith)
     shared-slice-copy-out-h
     cast-h
     mul-k
     element-copy-out-k
     mul-delta2
     element-copy-out-delta2
-    mul-delta2-2
+    (λ c. omega arith)
     slice-write-delta2-2
-    add-i
-    loop-less
+    (λ c. omega arith)
+    (λ c. omega arith)
     loop-again
-    element-copy-out-delta2-2
-    mul-delta2-3
+    (λ c. omega arith)
+    (λ c. omega arith)
     slice-write-delta2-3
     same-length
     returns)

@@ -39,18 +39,12 @@ all-put w x begin o o₁ o₂ b room e r e₂ =
     let p₂ : o₂ ≡ in-front (parts w x) o = rw (e₂, p₁) (in-front-append new₁ (map pos (third-group w)) o begin at-begin) in
     rw (p₂, whole, ← e) (in-front-store (parts w x) o (length w) (negsuc 0) (parts-length w x b) (omega arith))
 
-cast-order : tie.Need-cast-order
-cast-order c = search needs
-
 sub-order : tie.Need-sub-order
 sub-order c =
     let m = length (c .before .args .pattern .now) in
     let l : 1 ≤ m = omega arith in
     let b : m < 2 ^ 15 = omega arith in
     rw predecessor (small-fits (m - 1) (omega arith))
-
-slice-set-from-order : tie.Need-slice-set-from-order
-slice-set-from-order c = search needs
 
 write-second-group-requires : tie.Need-write-second-group-requires
 write-second-group-requires c κs =
@@ -75,9 +69,6 @@ write-third-group-requires c κs =
     let r = c .before .before .write-second-group .ensures in
     (p .0 .taken, (p .1 .0, omega (arith, p, second-kept (c .before .before), r .after, groups-length (s .args .pattern .now) (p .0 .taken .some))))
 
-mul-order : tie.Need-mul-order
-mul-order c = search needs
-
 slice-set-of-order : tie.Need-slice-set-of-order
 slice-set-of-order c = omega (arith, third-kept (c .before), c .before .before .before .before .before .before .before .pre)
 
@@ -98,12 +89,12 @@ pub write-order-spec : {M : Type 1} → statement M
 write-order-spec =
     tie.close
     (tie.spec
-    cast-order
+    (λ c. search needs)
     sub-order
-    slice-set-from-order
+    (λ c. search needs)
     write-second-group-requires
     write-third-group-requires
-    mul-order
+    (λ c. search needs)
     slice-set-of-order
     same-length
     returns)

@@ -89,17 +89,8 @@ sub-last c =
     let b : m < 2 ^ 15 = omega arith in
     rw predecessor (small-fits (m - 1) (omega arith))
 
-add-k-end : tie.Need-add-k-end Inv-loop μ-loop
-add-k-end c = omega arith
-
 loop-holds : tie.Need-loop-holds Inv-loop μ-loop
 loop-holds c = record { low = omega arith; high = omega arith; written = rw (second-all _) (none-written 1 _ _ (omega arith)) }
-
-mul-h : tie.Need-mul-h Inv-loop μ-loop
-mul-h c = omega arith
-
-element-copy-out-h : tie.Need-element-copy-out-h Inv-loop μ-loop
-element-copy-out-h c = omega arith
 
 -- the position that is read
 at-position :
@@ -121,9 +112,6 @@ mul-if2 c = rw (at-position c .0) (omega (arith, at-position c .1))
 element-copy-out-if2 : tie.Need-element-copy-out-if2 Inv-loop μ-loop
 element-copy-out-if2 c = rw (at-position c .0) (omega (arith, at-position c .1))
 
-cast-if2-2 : tie.Need-cast-if2-2 Inv-loop μ-loop
-cast-if2-2 c = omega arith
-
 -- the entry that is written next
 next-in-buffer :
     (c : tie.Then2 Inv-loop μ-loop) →
@@ -144,12 +132,6 @@ slice-set-from-h c = next-in-buffer c .0
 
 add-next : tie.Need-add-next Inv-loop μ-loop
 add-next c = omega (arith, next-in-buffer c, c .before .before .before .before .before .before)
-
-add-k : tie.Need-add-k Inv-loop μ-loop
-add-k c = omega arith
-
-loop-less : tie.Need-loop-less Inv-loop μ-loop
-loop-less c = omega arith
 
 loop-again : tie.Need-loop-again Inv-loop μ-loop
 loop-again c =
@@ -186,19 +168,19 @@ write-second-group-spec =
     μ-loop
     cast-last
     sub-last
-    add-k-end
+    (λ c. omega arith)
     loop-holds
-    mul-h
-    element-copy-out-h
+    (λ c. omega arith)
+    (λ c. omega arith)
     cast-if2
     mul-if2
     element-copy-out-if2
-    cast-if2-2
+    (λ c. omega arith)
     mul-h-2
     slice-set-from-h
     add-next
-    add-k
-    loop-less
+    (λ c. omega arith)
+    (λ c. omega arith)
     loop-again
     same-length
     returns)

@@ -48,17 +48,8 @@ Inv-loop pattern k-min begin order₀ next₀ h₀ h-end order next h = Begun pa
 abbrev μ-loop : tie.MeasureT-loop
 μ-loop pattern k-min begin order₀ next₀ h₀ h-end order next h = length pattern - h
 
-sub-h-end : tie.Need-sub-h-end Inv-loop μ-loop
-sub-h-end c = omega arith
-
 loop-holds : tie.Need-loop-holds Inv-loop μ-loop
 loop-holds c = record { high = omega arith; written = rw (third-all _) (none-written _ _ _ (omega arith)) }
-
-mul-if1 : tie.Need-mul-if1 Inv-loop μ-loop
-mul-if1 c = omega arith
-
-element-copy-out-if1 : tie.Need-element-copy-out-if1 Inv-loop μ-loop
-element-copy-out-if1 c = omega arith
 
 cast-order : tie.Need-cast-order Inv-loop μ-loop
 cast-order c = small-fits _ (omega arith)
@@ -81,12 +72,6 @@ slice-set-from-order c = next-in-buffer c .0
 
 add-next : tie.Need-add-next Inv-loop μ-loop
 add-next c = omega (arith, next-in-buffer c, c .before .before .before .before)
-
-add-h : tie.Need-add-h Inv-loop μ-loop
-add-h c = omega arith
-
-loop-less : tie.Need-loop-less Inv-loop μ-loop
-loop-less c = omega arith
 
 loop-again : tie.Need-loop-again Inv-loop μ-loop
 loop-again c =
@@ -113,16 +98,16 @@ write-third-group-spec =
     (tie.spec
     Inv-loop
     μ-loop
-    sub-h-end
+    (λ c. omega arith)
     loop-holds
-    mul-if1
-    element-copy-out-if1
+    (λ c. omega arith)
+    (λ c. omega arith)
     cast-order
     mul-t15
     slice-set-from-order
     add-next
-    add-h
-    loop-less
+    (λ c. omega arith)
+    (λ c. omega arith)
     loop-again
     same-length
     returns)

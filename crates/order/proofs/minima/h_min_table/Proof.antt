@@ -113,9 +113,6 @@ Inv-loop pattern h-min₀ m base₀ k₀ k-end h-min base k = Begun pattern h-mi
 abbrev μ-loop : tie.MeasureT-loop
 μ-loop pattern h-min₀ m base₀ k₀ k-end h-min base k = length pattern + 1 - k
 
-sub-h-min-from : tie.Need-sub-h-min-from Inv-loop μ-loop
-sub-h-min-from c = omega arith
-
 h-min-from-requires : tie.Need-h-min-from-requires Inv-loop μ-loop
 h-min-from-requires c κs =
     record {
@@ -125,12 +122,6 @@ h-min-from-requires c κs =
       high = omega arith;
       outside = λ j l u. absurd (omega arith);
     }
-
-element-set-from-h-min : tie.Need-element-set-from-h-min Inv-loop μ-loop
-element-set-from-h-min c = omega arith
-
-add-k-end : tie.Need-add-k-end Inv-loop μ-loop
-add-k-end c = omega arith
 
 loop-holds : tie.Need-loop-holds Inv-loop μ-loop
 loop-holds c =
@@ -146,21 +137,6 @@ loop-holds c =
 taken-in : (c : tie.In-loop Inv-loop μ-loop) → Taken (c .before .before .before .before .args .pattern .now)
 taken-in c = c .before .before .before .before .pre .0
 
-sub-d : tie.Need-sub-d Inv-loop μ-loop
-sub-d c = omega arith
-
-mul-low : tie.Need-mul-low Inv-loop μ-loop
-mul-low c = omega arith
-
-element-copy-out-low : tie.Need-element-copy-out-low Inv-loop μ-loop
-element-copy-out-low c = omega arith
-
-mul-h : tie.Need-mul-h Inv-loop μ-loop
-mul-h c = omega arith
-
-element-copy-out-h : tie.Need-element-copy-out-h Inv-loop μ-loop
-element-copy-out-h c = omega arith
-
 cast-if1 : tie.Need-cast-if1 Inv-loop μ-loop
 cast-if1 c = small-fits _ (omega arith)
 
@@ -168,12 +144,6 @@ sub-if1 : tie.Need-sub-if1 Inv-loop μ-loop
 sub-if1 c =
     let d = c .before .before in
     fits (taken-in d) (d .before .loop .inv) (omega arith)
-
-mul-h-2 : tie.Need-mul-h-2 Inv-loop μ-loop
-mul-h-2 c = omega arith
-
-element-set-from-h : tie.Need-element-set-from-h Inv-loop μ-loop
-element-set-from-h c = omega arith
 
 cast-known : tie.Need-cast-known Inv-loop μ-loop
 cast-known c =
@@ -187,27 +157,12 @@ add-known c =
     let r = d .before .loop .inv in
     rw (known-is (taken-in d) r (omega arith)) (omega (arith, base-small (taken-in d) r (omega arith)))
 
-sub-from : tie.Need-sub-from Inv-loop μ-loop
-sub-from c = omega arith
-
 h-min-from-requires-2 : tie.Need-h-min-from-requires-2 Inv-loop μ-loop
 h-min-from-requires-2 c κs =
     let d = c .before .before .before .before in
     let r = d .before .loop .inv in
     begins (taken-in d) r (omega arith) (c .before .if1 .left) (c .if2 .from)
     (⊎-elim (λ t. inl (t .0 .taken, t .1)) (λ t. inr (t .0 .left, t .1)) (c .if2 .came))
-
-mul-t27 : tie.Need-mul-t27 Inv-loop μ-loop
-mul-t27 c = omega arith
-
-element-set-from-h-min-2 : tie.Need-element-set-from-h-min-2 Inv-loop μ-loop
-element-set-from-h-min-2 c = omega arith
-
-add-k : tie.Need-add-k Inv-loop μ-loop
-add-k c = omega arith
-
-loop-less : tie.Need-loop-less Inv-loop μ-loop
-loop-less c = omega arith
 
 loop-again : tie.Need-loop-again Inv-loop μ-loop
 loop-again c =
@@ -229,27 +184,27 @@ h-min-table-spec =
     (tie.spec
     Inv-loop
     μ-loop
-    sub-h-min-from
+    (λ c. omega arith)
     h-min-from-requires
-    element-set-from-h-min
-    add-k-end
+    (λ c. omega arith)
+    (λ c. omega arith)
     loop-holds
-    sub-d
-    mul-low
-    element-copy-out-low
-    mul-h
-    element-copy-out-h
+    (λ c. omega arith)
+    (λ c. omega arith)
+    (λ c. omega arith)
+    (λ c. omega arith)
+    (λ c. omega arith)
     cast-if1
     sub-if1
-    mul-h-2
-    element-set-from-h
+    (λ c. omega arith)
+    (λ c. omega arith)
     cast-known
     add-known
-    sub-from
+    (λ c. omega arith)
     h-min-from-requires-2
-    mul-t27
-    element-set-from-h-min-2
-    add-k
-    loop-less
+    (λ c. omega arith)
+    (λ c. omega arith)
+    (λ c. omega arith)
+    (λ c. omega arith)
     loop-again
     returns)

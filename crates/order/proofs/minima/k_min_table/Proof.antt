@@ -76,12 +76,6 @@ loop-holds c = record {
   right = λ h b. inl (rw (c .pre .1) (getD-replicate 129 h 0 0 (omega arith)), λ j a u. absurd (omega arith));
 }
 
-mul-h : tie.Need-mul-h Inv-loop μ-loop
-mul-h c = omega arith
-
-element-copy-out-h : tie.Need-element-copy-out-h Inv-loop μ-loop
-element-copy-out-h c = omega arith
-
 cast-if1 : tie.Need-cast-if1 Inv-loop μ-loop
 cast-if1 c = small-fits _ (omega arith)
 
@@ -103,9 +97,6 @@ at-position c =
     let r = d .before .loop .inv in
     (position (s .pre .0) r (omega arith), in-table (s .pre .0) r (omega arith))
 
-cast-k-min : tie.Need-cast-k-min Inv-loop μ-loop
-cast-k-min c = omega arith
-
 cast-k-min-2 : tie.Need-cast-k-min-2 Inv-loop μ-loop
 cast-k-min-2 c = rw (at-position c .0) (tt, omega (arith, at-position c .1))
 
@@ -114,12 +105,6 @@ mul-k-min c = rw (at-position c .0) (omega (arith, at-position c .1))
 
 element-write-k-min : tie.Need-element-write-k-min Inv-loop μ-loop
 element-write-k-min c = rw (at-position c .0) (at-position c .1)
-
-sub-k : tie.Need-sub-k Inv-loop μ-loop
-sub-k c = omega arith
-
-loop-less : tie.Need-loop-less Inv-loop μ-loop
-loop-less c = omega arith
 
 loop-again : tie.Need-loop-again Inv-loop μ-loop
 loop-again c =
@@ -141,15 +126,15 @@ k-min-table-spec =
     Inv-loop
     μ-loop
     loop-holds
-    mul-h
-    element-copy-out-h
+    (λ c. omega arith)
+    (λ c. omega arith)
     cast-if1
     sub-if1
-    cast-k-min
+    (λ c. omega arith)
     cast-k-min-2
     mul-k-min
     element-write-k-min
-    sub-k
-    loop-less
+    (λ c. omega arith)
+    (λ c. omega arith)
     loop-again
     returns)

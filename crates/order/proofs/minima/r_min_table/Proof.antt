@@ -68,12 +68,6 @@ loop-holds : tie.Need-loop-holds Inv-loop μ-loop
 loop-holds c =
     record { size = c .pre .1; high = omega arith; above = λ a. absurd (omega arith); right = λ h a u. absurd (omega arith) }
 
-mul-if1 : tie.Need-mul-if1 Inv-loop μ-loop
-mul-if1 c = omega arith
-
-element-copy-out-if1 : tie.Need-element-copy-out-if1 Inv-loop μ-loop
-element-copy-out-if1 c = omega arith
-
 cast-if1 : tie.Need-cast-if1 Inv-loop μ-loop
 cast-if1 c = small-fits _ (omega arith)
 
@@ -81,9 +75,6 @@ sub-if1 : tie.Need-sub-if1 Inv-loop μ-loop
 sub-if1 c =
     let d = c .before in
     fits (d .before .before .pre .0) (d .before .loop .inv) (omega arith)
-
-sub-r : tie.Need-sub-r Inv-loop μ-loop
-sub-r c = omega arith
 
 -- after the branch `least` is the least period above r - 1
 after : (c : tie.Joined1 Inv-loop μ-loop) → R-min (c .before .before .before .before .args .pattern .now) (c .before .before .before .loop .r - 1) (c .if1 .least)
@@ -98,15 +89,6 @@ after c =
 
 cast-r-min : tie.Need-cast-r-min Inv-loop μ-loop
 cast-r-min c = omega (arith, after (c .before))
-
-mul-r-min : tie.Need-mul-r-min Inv-loop μ-loop
-mul-r-min c = omega arith
-
-element-write-r-min : tie.Need-element-write-r-min Inv-loop μ-loop
-element-write-r-min c = omega arith
-
-loop-less : tie.Need-loop-less Inv-loop μ-loop
-loop-less c = omega arith
 
 loop-again : tie.Need-loop-again Inv-loop μ-loop
 loop-again c =
@@ -123,14 +105,14 @@ r-min-table-spec =
     Inv-loop
     μ-loop
     loop-holds
-    mul-if1
-    element-copy-out-if1
+    (λ c. omega arith)
+    (λ c. omega arith)
     cast-if1
     sub-if1
-    sub-r
+    (λ c. omega arith)
     cast-r-min
-    mul-r-min
-    element-write-r-min
-    loop-less
+    (λ c. omega arith)
+    (λ c. omega arith)
+    (λ c. omega arith)
     loop-again
     returns)

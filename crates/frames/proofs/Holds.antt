@@ -1,0 +1,157 @@
+-- Exactly the frames b + q of the occurrences b are holds (`Holds-right`), each other frame is its byte, and the occurrences ascend inside the text.
+-- By induction on the list of occurrences; an occurrence is a position of the run 0 to n that passes a test.
+use mathlib.Core.Bool.{Bool, true, false, _||_, cond}
+use mathlib.Core.List.{List, [], _∷_, _++_, map}
+use mathlib.Core.Logic.{⊎-elim}
+use mathlib.Core.Path.{_≡_, refl, sym, _∙_}
+use Prim.Native.Nat.{ℕ, zero, suc, _+_, _-_, _≤_, _<_}
+use native.Mathlib.Omega.{arith}
+use borrow.Author.Tests.{leb-true, eqb-true, eqb-false, eq-eqb, ne-eqb}
+use lib.Dec.{leb, eqb}
+use lib.ListN.{length, getD, set, drop, length-set}
+use lib.Seq.{set-append-left, getD-set-same, getD-set-other}
+use Rattle.answers.specs.Buffers.{in-front}
+use Rattle.tables.proofs.Cases.{and-left, eq-or-ne}
+use Rattle.tables.specs.Sets.{byte}
+use Rattle.steps.specs.Occurrences.{occurs, occurrences-from, all-occurrences, occurrences}
+use Rattle.frames.proofs.Ascending.{Ascends, ascends-length, ascends-entry, passing, passing-ascends, passing-same, passing-none}
+use Rattle.frames.specs.Frames.{hold, with-holds, frames}
+use Rattle.frames.specs.Promises.{held-by, Holds-right}
+
+-- a frame after holds are marked at every b + q
+with-holds-at :
+    (q i : ℕ) (positions frames : List ℕ) → i < length frames →
+    getD (with-holds q positions frames) i 0 ≡ cond (held-by q positions i) hold (getD frames i 0)
+unfolding with-holds held-by
+with-holds-at q i [] fs h = refl
+with-holds-at q i (b ∷ later) fs h =
+    let h' : i < length (set fs (b + q) hold) = rw length-set h in
+    with-holds-at q i later (set fs (b + q) hold) h' ∙ go (eqb (b + q) i) refl
+  where
+    always : (z : Bool) → cond z hold hold ≡ hold
+    always true = refl
+    always false = refl
+
+    go :
+        (z : Bool) → eqb (b + q) i ≡ z →
+        cond (held-by q later i) hold (getD (set fs (b + q) hold) i 0) ≡ cond (z || held-by q later i) hold (getD fs i 0)
+    go true e =
+        let at : b + q ≡ i = eqb-true _ _ e in
+        rw (at, getD-set-same fs i hold 0 h) (always (held-by q later i))
+    go false e = rw (getD-set-other fs (b + q) i hold 0 (λ at. eqb-false _ _ e (sym at)))
+
+length-with-holds : (q : ℕ) (positions frames : List ℕ) → length (with-holds q positions frames) ≡ length frames
+unfolding with-holds
+length-with-holds q [] fs = refl
+length-with-holds q (b ∷ later) fs = length-with-holds q later (set fs (b + q) hold) ∙ length-set fs (b + q) hold
+
+pub length-frames : (q : ℕ) (w t : List ℕ) → length (frames q w t) ≡ length t
+unfolding frames
+length-frames q w t = length-with-holds q (occurrences w t) t
+
+pub holds-right : Holds-right
+unfolding Holds-right frames
+holds-right q i w t h = with-holds-at q i (occurrences w t) t h
+
+-- the occurrences are the positions that pass the test
+occurrences-passing : (n b : ℕ) (f : ℕ → ℕ) (N : ℕ) (w : List ℕ) → occurrences-from n b f N w ≡ passing n b (occurs f N w)
+unfolding occurrences-from passing
+occurrences-passing zero b f N w = refl
+occurrences-passing (suc n) b f N w = rw (occurrences-passing n (suc b) f N w)
+
+occurs-inside : (f : ℕ → ℕ) (N : ℕ) (w : List ℕ) (b : ℕ) → occurs f N w b ≡ true → b + length w ≤ N
+unfolding occurs
+occurs-inside f N w b e = leb-true _ _ (and-left (leb (b + length w) N) _ e)
+
+-- the occurrences ascend, each once, below any number that no position of the pattern inside the text reaches
+pub occurrences-ascend :
+    (w t : List ℕ) (high : ℕ) → ((b : ℕ) → b + length w ≤ length t → b < high) → Ascends 0 high (occurrences w t)
+unfolding occurrences all-occurrences
+occurrences-ascend w t high h =
+    rw (occurrences-passing (suc (length t)) 0 (byte t) (length t) w)
+    (passing-ascends (suc (length t)) 0 high _ (λ k e. h k (occurs-inside (byte t) (length t) w k e)))
+
+pub occurrences-hold : (q : ℕ) (w t : List ℕ) → q < length w → Ascends 0 (length t - q) (occurrences w t)
+occurrences-hold q w t h = occurrences-ascend w t (length t - q) (λ b u. omega arith)
+
+pub occurrence-inside : (w t : List ℕ) (i : ℕ) → i < length (occurrences w t) → getD (occurrences w t) i 0 + length w ≤ length t
+occurrence-inside w t i h =
+    let all = occurrences-ascend w t (suc (length t) - length w) (λ b u. omega arith) in
+    omega (arith, ascends-entry 0 (suc (length t) - length w) (occurrences w t) all i h)
+
+pub occurrences-few : (w t : List ℕ) → 1 ≤ length w → length (occurrences w t) ≤ length t
+occurrences-few w t h =
+    omega (arith, ascends-length 0 (length t) (occurrences w t) (occurrences-ascend w t (length t) (λ b u. omega arith)))
+
+-- no number before the first b + q is held
+held-before : (q low high i : ℕ) (l : List ℕ) → Ascends low high l → i < low + q → held-by q l i ≡ false
+unfolding held-by
+held-before q low high i [] a h = refl
+held-before q low high i (b ∷ later) a h =
+    rw (ne-eqb (b + q) i (λ e. omega arith)) (held-before q (suc b) high i later (a .2) (omega arith))
+
+-- the numbers that are held, in a run that has them all
+held-listed :
+    (n i q low high : ℕ) (l : List ℕ) → Ascends low high l → i ≤ low + q → high ≤ i + n - q →
+    passing n i (held-by q l) ≡ map (λ b. b + q) l
+unfolding passing held-by
+held-listed n i q low high [] a l u = passing-none n i
+held-listed zero i q low high (b ∷ later) a l u = absurd (omega arith)
+held-listed (suc n) i q low high (b ∷ later) a l u =
+    let from-b : Ascends b high (b ∷ later) = (omega arith, a .1, a .2) in
+    let rest = passing-same n (suc i) (held-by q (b ∷ later)) (held-by q later) in
+    ⊎-elim
+    (λ e. rw (
+      eq-eqb (b + q) i e,
+      rest (λ k g h. rw (ne-eqb (b + q) k (λ d. omega arith))),
+      held-listed n (suc i) q (suc b) high later (a .2) (omega arith) (omega arith),
+      e,
+    ))
+    (λ d. rw (held-before q b high i (b ∷ later) from-b (omega arith))
+    (held-listed n (suc i) q b high (b ∷ later) from-b (omega arith) (omega arith)))
+    (eq-or-ne (b + q) i)
+
+-- in a text of bytes a frame is a hold just where it is b + q for an occurrence b
+pub frame-held :
+    (q i : ℕ) (w t : List ℕ) → ((k : ℕ) → byte t k < hold) → i < length t →
+    eqb (getD (frames q w t) i 0) hold ≡ held-by q (occurrences w t) i
+unfolding Holds-right
+frame-held q i w t bytes h = rw (holds-right q i w t h) (go (held-by q (occurrences w t) i))
+  where
+    go : (z : Bool) → eqb (cond z hold (byte t i)) hold ≡ z
+    go true = refl
+    go false = ne-eqb (byte t i) hold (λ e. omega (arith, bytes i))
+
+-- the positions of the holds among frames, ascending
+unfoldable pub holds-of : (frames : List ℕ) → List ℕ
+holds-of fs = passing (length fs) 0 (λ i. eqb (getD fs i 0) hold)
+
+-- demand 3: after a conversion the holds are the positions b + q, in the order of the occurrences b
+pub holds-listed :
+    (q : ℕ) (w t : List ℕ) → q < length w → ((k : ℕ) → byte t k < hold) →
+    holds-of (frames q w t) ≡ map (λ b. b + q) (occurrences w t)
+unfolding holds-of
+holds-listed q w t h bytes =
+    let held = held-by q (occurrences w t) in
+    let same = passing-same (length t) 0 (λ i. eqb (getD (frames q w t) i 0) hold) held in
+    rw (length-frames q w t, same (λ k l u. frame-held q k w t bytes (omega arith)))
+    (held-listed (length t) 0 q 0 (length t - q) (occurrences w t) (occurrences-hold q w t h) (omega arith) (omega arith))
+
+-- holds inside the first of two lists are marked there
+with-holds-append :
+    (q low high : ℕ) (l first second : List ℕ) → Ascends low high l → high ≤ length first - q →
+    with-holds q l (first ++ second) ≡ with-holds q l first ++ second
+unfolding with-holds
+with-holds-append q low high [] first second a h = refl
+with-holds-append q low high (b ∷ later) first second a h =
+    let h' : high ≤ length (set first (b + q) hold) - q = rw length-set h in
+    rw (set-append-left first second (b + q) hold (omega arith))
+    (with-holds-append q (suc b) high later (set first (b + q) hold) second (a .2) h')
+
+-- holds that are marked after the text is in front of a buffer: the frames are in front of it
+pub frames-in-front :
+    (q : ℕ) (w t buffer : List ℕ) → q < length w → with-holds q (occurrences w t) (in-front t buffer) ≡ in-front (frames q w t) buffer
+unfolding in-front frames
+frames-in-front q w t buffer h =
+    rw length-with-holds
+    (with-holds-append q 0 (length t - q) (occurrences w t) t (drop (length t) buffer) (occurrences-hold q w t h) (omega arith))

@@ -1,0 +1,28 @@
+// Frames: a move for each byte of a text, and the holds.
+ghost use mathlib.Core.Path.{_≡_};
+ghost use Prim.Native.Nat.{ℕ, _+_, _<_, _≤_};
+ghost use lib.ListN.{length, getD};
+ghost use Rattle.answers.specs.Buffers.{in-front};
+ghost use Rattle.frames.specs.Frames.{with-holds};
+
+const HOLD: u16 = 256;
+
+// Copies each byte of a text to a move.
+pub fn write_moves(text: &[u8], frames: &mut [u16])
+    requires { ⌜ length (now text) ≤ length (now frames) ⌝ }
+    ensures { λ r. ⌜ now (frames .exit) ≡ in-front (now (text .entry)) (now (frames .entry)) ⌝ }
+{
+    for at in 0..text.len() {
+        frames[at] = text[at] as u16;
+    }
+}
+
+// Makes frame b + q a hold for every entry b, q being the hold offset (hold place).
+pub fn mark_holds(found: &[u16], hold: usize, frames: &mut [u16])
+    requires { ⌜ ((i : ℕ) → i < length (now found) → getD (now found) i 0 + hold < length (now frames)) ⌝ }
+    ensures { λ r. ⌜ now (frames .exit) ≡ with-holds hold (now (found .entry)) (now (frames .entry)) ⌝ }
+{
+    for i in 0..found.len() {
+        frames[found[i] as usize + hold] = HOLD;
+    }
+}

@@ -1,0 +1,199 @@
+-- `reader::read_job` meets its contract: a refusal leaves the buffers, and past the refusals the lines stand in front of each.
+-- Assumes nothing.
+use mathlib.Core.Bool.{true, false}
+use mathlib.Core.List.{List, _++_}
+use mathlib.Core.Path.{_≡_, refl, sym, ap, _∙_}
+use Prim.Native.Nat.{ℕ, zero, suc, _+_, _*_, _≤_, _<_}
+use native.Mathlib.Omega.{arith}
+use borrow.Author.Needs.{needs}
+use borrow.Author.Tests.{lt-ltb, le-ltb}
+use lib.ListN.{length, take, drop}
+use lib.Seq.{length-take-le}
+use Rattle.answers.specs.Answers.{status-only, if-done}
+use Rattle.answers.specs.Buffers.{in-front}
+use Rattle.answers.specs.Refusals.{first-of}
+use Rattle.job.proofs.Lengths.{length-bytes}
+use Rattle.reader.proofs.Reading.{good-is, good-fields, refused-is, lines-left, lines-right}
+use Rattle.job.proofs.Taken.{Readable, readable}
+use Rattle.reader.proofs.read_job.Statement.{statement}
+use Rattle.reader.proofs.read_job.Tie as tie
+use Rattle.job.specs.Job.{good-line, good-lines, bytes-in, m-in, n-in, pattern-in, text-in, file-refusals}
+use Rattle.job.specs.Read.{read-status, read-answer, Read-outcome, Read-outcome-of}
+use Rattle.reader.specs.FirstLine.{First-line-read, fields-in}
+use Rattle.reader.specs.declared.Fields.{Fields}
+use Rattle.job.specs.declared.ReadAnswer.{ReadAnswer}
+
+abbrev answered : (status m q n : ℕ) → ReadAnswer
+answered s m q n = record { answer = status-only s; m = m; q = q; n = n }
+
+-- a refused call answers its status and leaves the buffers
+refused : (s : ℕ) (file p t : List ℕ) (r : ReadAnswer) → (s ≡ 0 → ⊥) → r ≡ answered s 0 0 0 → Read-outcome-of s file p p t t r
+unfolding if-done read-answer
+refused zero file p t r h e = absurd (h refl)
+refused (suc s) file p t r h e = record { answer = e; pattern-left = refl; text-left = refl }
+
+too-short : (file : List ℕ) (p t : ℕ) → length file < 11 → read-status file p t ≡ 1
+unfolding read-status file-refusals first-of
+too-short file p t h = rw (lt-ltb _ _ h)
+
+bad-first-line : (file : List ℕ) (p t : ℕ) → 11 ≤ length file → good-line 10 0 file ≡ false → read-status file p t ≡ 2
+unfolding read-status file-refusals first-of
+bad-first-line file p t h e = rw (le-ltb _ _ h, e)
+
+-- the lines read into a buffer's first entries stand in front of it
+front-read : (file old read : List ℕ) (n a : ℕ) → n ≤ length old → read ≡ bytes-in (length (take n old)) a file
+    → read ++ drop n old ≡ in-front (bytes-in n a file) old
+unfolding in-front
+front-read file old read n a h e = rw (e, length-take-le n old h, length-bytes)
+
+-- a call that is done
+done : (file p p' t t' : List ℕ) (f : Fields) (r : ReadAnswer)
+    → f ≡ fields-in file
+    → read-status file (length p) (length t) ≡ 0
+    → p' ≡ in-front (bytes-in (f .m) 11 file) p
+    → t' ≡ in-front (bytes-in (f .n) (11 + 3 * f .m) file) t
+    → r ≡ answered 0 (f .m) (f .q) (f .n)
+    → Read-outcome file p p' t t' r
+unfolding if-done read-answer pattern-in text-in
+done file p p' t t' f r g e left right a =
+    rw e (record { answer = rw g at a; pattern-left = rw g at left; text-left = rw g at right })
+
+-- what is known of the fields of a file that is read
+record Sizes (file : List ℕ) (f : Fields) (p t : ℕ) : Type 0 where
+  hold : f .q < f .m
+  pattern : f .m ≤ 128
+  text : f .n ≤ 16384
+  pattern-room : f .m ≤ p
+  text-room : f .n ≤ t
+  size : length file ≡ 11 + 3 * f .m + 3 * f .n
+  lines : good-lines (f .m + f .n) 11 file ≡ true
+
+sizes : (file : List ℕ) (f : Fields) (p t : ℕ) → f ≡ fields-in file → Readable file p t → Sizes file f p t
+sizes file f p t g r =
+    let taken = r .file-taken in
+    rw g
+    (record {
+      hold = taken .limits .hold;
+      pattern = taken .limits .pattern;
+      text = taken .limits .text;
+      pattern-room = r .pattern-room;
+      text-room = r .text-room;
+      size = taken .size;
+      lines = taken .rest;
+    })
+
+-- the first line that was read
+line-read : (c : tie.After-fields)
+    → First-line-read (c .before .before .before .before .before .before .before .args .file .now) (c .fields .given .0 .0)
+line-read c =
+    let answered = c .before .before .first-line .ensures in
+    record {
+      there = omega arith;
+      good = good-is _ _ answered _ (c .fields .given .1);
+      given = good-fields _ _ answered _ (c .fields .given .1);
+    }
+
+-- the sizes past the refusals
+sized : (c : tie.Else2)
+    → let args = c .before .before .before .before .before .before .before .before .before .before .args in
+    Sizes (args .file .now) (c .before .before .before .fields .given .0 .0) (length (args .pattern .now)) (length (args .text .now))
+sized c =
+    sizes _ _ _ _ (line-read (c .before .before .before) .given) (readable _ _ _ (sym (c .before .status-of .ensures) ∙ c .if2 .left))
+
+returns : tie.Need-returns
+returns c =
+    let at = c .before .before .before .before .before in
+    rw (too-short (at .args .file .now) (length (at .args .pattern .now)) (length (at .args .text .now)) (omega arith)) (refused 1 _ _ _ _ (omega arith) (c .refused .ensures))
+
+returns-2 : tie.Need-returns-2
+returns-2 c =
+    let line = c .before .before .before in
+    let args = line .before .before .before .before .before .args in
+    let bad = refused-is _ _ (line .first-line .ensures) (c .before .enum-told .given .1) in
+    rw (bad-first-line (args .file .now) (length (args .pattern .now)) (length (args .text .now)) (omega arith) bad)
+    (refused 2 _ _ _ _ (omega arith) (c .refused2 .ensures))
+
+status-of-requires : tie.Need-status-of-requires
+status-of-requires c κs = line-read (c .before)
+
+returns-3 : tie.Need-returns-3
+returns-3 c = rw (← c .before .before .status-of .ensures) (refused _ _ _ _ _ (c .before .if2 .taken) (c .refused3 .ensures))
+
+slice-relend-prefix-read-lines : tie.Need-slice-relend-prefix-read-lines
+slice-relend-prefix-read-lines c = sized c .pattern-room
+
+slice-aggregate-read-lines : tie.Need-slice-aggregate-read-lines
+slice-aggregate-read-lines c = sym (length-take-le _ _ (sized (c .before) .pattern-room))
+
+read-lines-requires : tie.Need-read-lines-requires
+read-lines-requires c κs =
+    let known = sized (c .before) in
+    rw (length-take-le _ _ (known .pattern-room)) (omega (arith, known), lines-left _ _ _ _ (known .lines))
+
+mul-read-lines : tie.Need-mul-read-lines
+mul-read-lines c = omega (arith, sized (c .before .before .before .before))
+
+add-read-lines : tie.Need-add-read-lines
+add-read-lines c = omega (arith, sized (c .before .before .before .before))
+
+slice-relend-prefix-read-lines-2 : tie.Need-slice-relend-prefix-read-lines-2
+slice-relend-prefix-read-lines-2 c = sized (c .before .before .before .before) .text-room
+
+slice-aggregate-read-lines-2 : tie.Need-slice-aggregate-read-lines-2
+slice-aggregate-read-lines-2 c = sym (length-take-le _ _ (sized (c .before .before .before .before .before) .text-room))
+
+read-lines-requires-2 : tie.Need-read-lines-requires-2
+read-lines-requires-2 c κs =
+    let known = sized (c .before .before .before .before .before) in
+    rw (length-take-le _ _ (known .text-room)) (omega (arith, known), lines-right _ _ _ _ (known .lines))
+
+cast-t18 : tie.Need-cast-t18
+cast-t18 c = omega (arith, sized (c .before .before .before .before .before .before .before .before))
+
+cast-t19 : tie.Need-cast-t19
+cast-t19 c = omega (arith, sized (c .before .before .before .before .before .before .before .before .before))
+
+cast-t20 : tie.Need-cast-t20
+cast-t20 c = omega (arith, sized (c .before .before .before .before .before .before .before .before .before))
+
+returns-4 : tie.Need-returns-4
+returns-4 c =
+    let second = c .before .before .before in
+    let first = second .before .before .before .before in
+    let passed = first .before .before in
+    let known = sized passed in
+    done _ _ _ _ _ _ _
+    (line-read (passed .before .before .before) .given)
+    (sym (passed .before .status-of .ensures) ∙ passed .if2 .left)
+    (front-read _ _ _ _ _ (known .pattern-room) (first .read-lines .ensures))
+    (front-read _ _ _ _ _ (known .text-room) (second .read-lines2 .ensures))
+    refl
+
+pub read-job-spec : {M : Type 1} → statement M
+read-job-spec =
+    tie.close
+    (tie.spec
+    (λ c κs. search needs)
+    returns
+    (λ c κs. search needs)
+    (λ c. search needs)
+    (λ c. search needs)
+    (λ c κs. search needs)
+    returns-2
+    status-of-requires
+    (λ c κs. search needs)
+    returns-3
+    slice-relend-prefix-read-lines
+    slice-aggregate-read-lines
+    read-lines-requires
+    mul-read-lines
+    add-read-lines
+    slice-relend-prefix-read-lines-2
+    slice-aggregate-read-lines-2
+    read-lines-requires-2
+    cast-t18
+    cast-t19
+    cast-t20
+    (λ c. search needs)
+    (λ c. search needs)
+    returns-4)

@@ -1,0 +1,213 @@
+// Reading a job file: all of it is checked before anything is written to the caller's buffers.
+use answers::Answer;
+use hex::Parsed;
+use job::LINE_END;
+use job::ReadAnswer;
+ghost use mathlib.Core.Bool.{true, _&&_};
+ghost use mathlib.Core.Path.{_≡_};
+ghost use Prim.Native.Nat.{_+_, _*_, _≤_, _<_};
+ghost use lib.Dec.{eqb};
+ghost use lib.ListN.{length};
+ghost use Rattle.hex.specs.Hex.{is-digit, digit-value, all-digits, number};
+ghost use Rattle.hex.specs.Parsed.{Parsed-outcome};
+ghost use Rattle.answers.specs.Answers.{status-only};
+ghost use Rattle.job.specs.Job.{line-end, good-lines, bytes-in};
+ghost use Rattle.job.specs.Read.{read-status, read-answer, Read-outcome};
+ghost use Rattle.reader.specs.FirstLine.{First-line-outcome, First-line-read};
+
+// What a job's first line gives.
+pub struct Fields {
+    pub edition: usize,
+    pub m: usize,
+    pub q: usize,
+    pub n: usize,
+}
+
+// A first line as it is read.
+pub enum FirstLine {
+    Good(Fields),
+    // refusal 2: a byte that is not the digit or line end due there
+    Refused,
+}
+
+// The number that two digits give.
+fn pair(high: u8, low: u8) -> Parsed
+    ensures { λ r. ⌜ Parsed-outcome (is-digit high && is-digit low) (digit-value high * 16 + digit-value low) r ⌝ }
+{
+    let Parsed::Value(sixteens) = hex::digit_value(high) else {
+        return Parsed::Refused;
+    };
+    let Parsed::Value(ones) = hex::digit_value(low) else {
+        return Parsed::Refused;
+    };
+    Parsed::Value(sixteens * 16 + ones)
+}
+
+// The number that two digits at a place of the file give.
+fn pair_at(file: &[u8], at: usize) -> Parsed
+    requires { ⌜ at + 2 ≤ length (now file) ⌝ }
+    ensures { λ r. ⌜ Parsed-outcome (all-digits 2 at (now (file .entry))) (number 2 at (now (file .entry))) r ⌝ }
+{
+    pair(file[at], file[at + 1])
+}
+
+// The fields of the first line.
+fn first_line(file: &[u8]) -> FirstLine
+    requires { ⌜ 11 ≤ length (now file) ⌝ }
+    ensures { λ r. ⌜ First-line-outcome (now (file .entry)) r ⌝ }
+{
+    let Parsed::Value(edition) = pair_at(file, 0) else {
+        return FirstLine::Refused;
+    };
+    let Parsed::Value(m) = pair_at(file, 2) else {
+        return FirstLine::Refused;
+    };
+    let Parsed::Value(q) = pair_at(file, 4) else {
+        return FirstLine::Refused;
+    };
+    let Parsed::Value(high) = pair_at(file, 6) else {
+        return FirstLine::Refused;
+    };
+    let Parsed::Value(low) = pair_at(file, 8) else {
+        return FirstLine::Refused;
+    };
+    if file[10] != LINE_END {
+        return FirstLine::Refused;
+    }
+    FirstLine::Good(Fields {
+        edition: edition as usize,
+        m: m as usize,
+        q: q as usize,
+        n: high as usize * 256 + low as usize,
+    })
+}
+
+// Whether three bytes are a line of two digits.
+fn is_line(high: u8, low: u8, end: u8) -> bool
+    ensures { λ r. ⌜ r ≡ is-digit high && is-digit low && eqb end line-end ⌝ }
+{
+    match pair(high, low) {
+        Parsed::Value(_) => end == LINE_END,
+        Parsed::Refused => false,
+    }
+}
+
+// Whether so many lines of two digits stand in the file, from a place on: all are counted, with no way out of the loop before its end.
+fn are_lines(file: &[u8], count: usize, from: usize) -> bool
+    requires { ⌜ from + 3 * count ≤ length (now file) ⌝ }
+    requires { ⌜ count < 65536 ⌝ }
+    ensures { λ r. ⌜ r ≡ good-lines count from (now (file .entry)) ⌝ }
+{
+    let mut good: u16 = 0;
+    for i in 0..count {
+        let at = from + 3 * i;
+        if is_line(file[at], file[at + 1], file[at + 2]) {
+            good += 1;
+        }
+    }
+    good as usize == count
+}
+
+// The status of reading a file of these fields into buffers of these lengths.
+fn status_of(file: &[u8], fields: Fields, pattern: usize, text: usize) -> u32
+    requires { ⌜ First-line-read (now file) fields ⌝ }
+    ensures { λ r. ⌜ r ≡ read-status (now (file .entry)) pattern text ⌝ }
+{
+    let m = fields.m;
+    let n = fields.n;
+    if fields.edition != 1 {
+        return 3;
+    }
+    if m == 0 || 128 < m {
+        return 4;
+    }
+    if m <= fields.q {
+        return 5;
+    }
+    if 16384 < n {
+        return 6;
+    }
+    if file.len() != 11 + 3 * m + 3 * n {
+        return 1;
+    }
+    if !are_lines(file, m + n, 11) {
+        return 2;
+    }
+    if pattern < m || text < n {
+        return 7;
+    }
+    0
+}
+
+// The value of a digit.
+fn value_of(digit: u8) -> u8
+    requires { ⌜ is-digit digit ≡ true ⌝ }
+    ensures { λ r. ⌜ r ≡ digit-value digit ⌝ }
+{
+    if digit <= 0x39 {
+        digit - 0x30
+    } else {
+        digit - 0x37
+    }
+}
+
+// The bytes of the lines from a place of the file on, as many as the buffer holds.
+fn read_lines(file: &[u8], from: usize, out: &mut [u8])
+    requires { ⌜ from + 3 * length (now out) ≤ length (now file) ⌝ }
+    requires { ⌜ good-lines (length (now out)) from (now file) ≡ true ⌝ }
+    ensures { λ _. ⌜ now (out .exit) ≡ bytes-in (length (now (out .entry))) from (now (file .entry)) ⌝ }
+{
+    for i in 0..out.len() {
+        let at = from + 3 * i;
+        out[i] = value_of(file[at]) * 16 + value_of(file[at + 1]);
+    }
+}
+
+// The answer of a call that is refused.
+fn refused(status: u32) -> ReadAnswer
+    ensures { λ r. ⌜ r ≡ record { answer = status-only status; m = 0; q = 0; n = 0 } ⌝ }
+{
+    ReadAnswer {
+        answer: Answer {
+            status,
+            occurrences: 0,
+            comparisons: 0,
+            ones: 0,
+        },
+        m: 0,
+        q: 0,
+        n: 0,
+    }
+}
+
+// Reads a job file into the caller's buffers for pattern (motif) and text (chain).
+#[no_mangle]
+pub extern "C" fn read_job(file: &[u8], pattern: &mut [u8], text: &mut [u8]) -> ReadAnswer
+    ensures { λ r. ⌜ Read-outcome (now (file .entry)) (now (pattern .entry)) (now (pattern .exit)) (now (text .entry)) (now (text .exit)) r ⌝ }
+{
+    if file.len() < 11 {
+        return refused(1);
+    }
+    let FirstLine::Good(fields) = first_line(file) else {
+        return refused(2);
+    };
+    let status = status_of(file, fields, pattern.len(), text.len());
+    if status != 0 {
+        return refused(status);
+    }
+    let m = fields.m;
+    let n = fields.n;
+    read_lines(file, 11, &mut pattern[..m]);
+    read_lines(file, 11 + 3 * m, &mut text[..n]);
+    ReadAnswer {
+        answer: Answer {
+            status: 0,
+            occurrences: 0,
+            comparisons: 0,
+            ones: 0,
+        },
+        m: m as u32,
+        q: fields.q as u32,
+        n: n as u32,
+    }
+}

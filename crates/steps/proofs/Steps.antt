@@ -1,0 +1,135 @@
+-- One step, unfolded once: how many comparisons agree along a row, the shift, the number of comparisons, and a run by its first step.
+-- By the tests of the definitions; after this file no proof unfolds `step`, `align` or `compared`.
+use mathlib.Core.Bool.{cond}
+use mathlib.Core.List.{List, [], _∷_, _++_, map, append-assoc}
+use mathlib.Core.Logic.{_≢_, ⊎-elim}
+use mathlib.Core.Path.{_≡_, refl, sym, _∙_}
+use Prim.Native.Nat.{ℕ, zero, suc, _+_, _-_, _≤_, _<_, min}
+use native.Mathlib.Nat.{zero-add}
+use native.Mathlib.Omega.{arith}
+use borrow.Author.Tests.{eq-eqb, ne-eqb, le-leb, lt-leb}
+use lib.Dec.{eqb}
+use lib.ListN.{length, getD, take, drop, length-append, length-map, length-take}
+use lib.Seq.{drop-cons, drop-length}
+use Rattle.tables.proofs.Cases.{eq-or-ne}
+use Rattle.tables.specs.Sets.{byte}
+use Rattle.tables.specs.Tables.{order, second-group, third-group, k-min, r-min, period, Δ1, Δ2}
+use Rattle.steps.specs.Steps.{Alignment, agreeing, align, step, alignments-from, compared, is-occurrence, comparisons-of, listed}
+
+-- what an alignment at b shows at a pattern position
+abbrev pub Agrees : (f : ℕ → ℕ) (w : List ℕ) (b g : ℕ) → Type 0
+Agrees f w b g = byte w g ≡ f (b + g)
+
+abbrev pub Differs : (f : ℕ → ℕ) (w : List ℕ) (b g : ℕ) → Type 0
+Differs f w b g = byte w g ≢ f (b + g)
+
+module _ (f : ℕ → ℕ) (w : List ℕ) (b : ℕ) where
+  -- along a row an agreeing comparison is counted, and a differing one ends the count
+  pub agreeing-none : agreeing f w b [] ≡ 0
+  unfolding agreeing
+  agreeing-none = refl
+
+  pub agreeing-agrees : (i : ℕ) (row : List ℕ) → Agrees f w b i → agreeing f w b (i ∷ row) ≡ suc (agreeing f w b row)
+  unfolding agreeing
+  agreeing-agrees i row e = rw (eq-eqb _ _ e)
+
+  pub agreeing-differs : (i : ℕ) (row : List ℕ) → Differs f w b i → agreeing f w b (i ∷ row) ≡ 0
+  unfolding agreeing
+  agreeing-differs i row d = rw (ne-eqb _ _ d)
+
+  pub agreeing-at-most : (row : List ℕ) → agreeing f w b row ≤ length row
+  agreeing-at-most [] = omega (arith, agreeing-none)
+  agreeing-at-most (i ∷ row) =
+      ⊎-elim
+      (λ e. omega (arith, agreeing-agrees i row e, agreeing-at-most row))
+      (λ d. omega (arith, agreeing-differs i row d))
+      (eq-or-ne (byte w i) (f (b + i)))
+
+  -- the first n entries of a row agree: the count goes on with those after them
+  abbrev pub Agreed : (row : List ℕ) → (n : ℕ) → Type 0
+  Agreed row n = agreeing f w b row ≡ n + agreeing f w b (drop n row)
+
+  pub agreed-none : (row : List ℕ) → Agreed row 0
+  agreed-none row = sym (zero-add _)
+
+  pub agreed-more : (row : List ℕ) (n : ℕ) → n < length row → Agreed row n → Agrees f w b (getD row n 0) → Agreed row (suc n)
+  agreed-more row n l h e =
+      let next = rw (drop-cons row n 0 l) at h in
+      omega (arith, agreeing-agrees (getD row n 0) (drop (suc n) row) e)
+
+  pub agreed-stop : (row : List ℕ) (n : ℕ) → n < length row → Agreed row n → Differs f w b (getD row n 0) → agreeing f w b row ≡ n
+  agreed-stop row n l h d =
+      let next = rw (drop-cons row n 0 l) at h in
+      omega (arith, agreeing-differs (getD row n 0) (drop (suc n) row) d)
+
+  pub agreed-all : (row : List ℕ) → Agreed row (length row) → agreeing f w b row ≡ length row
+  agreed-all row h = let next = rw drop-length at h in omega (arith, agreeing-none)
+
+-- the shifts beside the order's third group, beside both its groups, and beside all of it, by the number that agreed: Δ2 with Δ1 at its front
+abbrev pub third-shifts : (w : List ℕ) → List ℕ
+third-shifts w = map (r-min w) (third-group w) ++ (period w ∷ [])
+
+abbrev pub second-shifts : (w : List ℕ) → List ℕ
+second-shifts w = map (k-min w) (second-group w) ++ third-shifts w
+
+abbrev pub shifts : (w : List ℕ) → (c s : ℕ) → List ℕ
+shifts w c s = Δ1 w c s ∷ second-shifts w
+
+module _ (f : ℕ → ℕ) (w : List ℕ) (b s : ℕ) where
+  -- the shift is Δ1 where the first comparison differs, else Δ2 by the number that agreed
+  pub step-shift-first : agreeing f w b (order w) ≡ 0 → step f w b s .shift ≡ Δ1 w (f (b + (length w - 1))) s
+  unfolding step align
+  step-shift-first e = rw (eq-eqb _ 0 e)
+
+  pub step-shift-later : 1 ≤ agreeing f w b (order w) → step f w b s .shift ≡ getD (Δ2 w) (agreeing f w b (order w)) 0
+  unfolding step align
+  step-shift-later l = rw (ne-eqb (agreeing f w b (order w)) 0 (omega arith))
+
+  pub step-shift : step f w b s .shift ≡ getD (shifts w (f (b + (length w - 1))) s) (agreeing f w b (order w)) 0
+  unfolding Δ2
+  step-shift = go (agreeing f w b (order w)) refl
+    where
+      go : (n : ℕ) → agreeing f w b (order w) ≡ n → step f w b s .shift ≡ getD (shifts w (f (b + (length w - 1))) s) n 0
+      go zero e = step-shift-first e
+      go (suc n) e = step-shift-later (omega arith) ∙ rw (e, append-assoc)
+
+  -- of the text a step reads only how many agree and the byte at the last position
+  pub step-determined :
+      (g : ℕ → ℕ) → agreeing g w b (order w) ≡ agreeing f w b (order w) → g (b + (length w - 1)) ≡ f (b + (length w - 1)) →
+      step g w b s ≡ step f w b s
+  unfolding step align
+  step-determined g a c = rw (a, c)
+
+  -- the comparisons are those that agreed, and one more where one differed
+  pub step-comparisons :
+      compared (step f w b s)
+      ≡ map (λ i. record { pattern-position = i; text-position = b + i }) (take (suc (agreeing f w b (order w))) (order w))
+  unfolding step align compared
+  step-comparisons = refl
+
+  pub step-count :
+      (later : List Alignment) →
+      length (comparisons-of (step f w b s ∷ later))
+      ≡ min (suc (agreeing f w b (order w))) (length (order w)) + length (comparisons-of later)
+  unfolding comparisons-of
+  step-count later = simp (length-append, step-comparisons, length-map, length-take)
+
+  -- a step lists its own position where all agree
+  pub step-listed :
+      (later : List Alignment) →
+      listed (step f w b s ∷ later) ≡ cond (eqb (agreeing f w b (order w)) (length (order w))) (b ∷ listed later) (listed later)
+  unfolding listed is-occurrence step align
+  step-listed later = refl
+
+  -- a run ends past the text's end, and goes on by a step before it
+  pub run-over : (fuel N : ℕ) → N < b + length w → alignments-from fuel f N w b s ≡ []
+  unfolding alignments-from
+  run-over zero N h = refl
+  run-over (suc fuel) N h = rw (lt-leb _ _ h)
+
+  pub run-step :
+      (fuel N : ℕ) → b + length w ≤ N →
+      alignments-from (suc fuel) f N w b s
+      ≡ step f w b s ∷ alignments-from fuel f N w (b + step f w b s .shift) (step f w b s .shift)
+  unfolding alignments-from
+  run-step fuel N h = rw (le-leb _ _ h)

@@ -1,0 +1,4 @@
+pub mod Steps
+pub mod Occurrences
+pub mod Promises
+pub mod Run

@@ -1,0 +1,50 @@
+-- What is promised of the steps, over any text as in Steps: each is a type, and its proof is in proofs/ or owed (docs/PROMISES.md).
+-- These are definitions.
+use mathlib.Core.Bool.{cond}
+use mathlib.Core.List.{List, [], _∷_}
+use mathlib.Core.Path.{_≡_}
+use Prim.Native.Nat.{ℕ, zero, suc, _+_, _*_, _-_, _≤_, _<_}
+use lib.Dec.{ltb}
+use lib.ListN.{length}
+use Rattle.tables.specs.Tables.{period}
+use Rattle.steps.specs.Occurrences.{all-occurrences}
+use Rattle.steps.specs.Steps.{Alignment, Comparison, alignments-from, alignments, comparisons-of, listed}
+
+-- where the search stands after these alignments, begun at b
+unfoldable pub ends-at : (b : ℕ) → List Alignment → ℕ
+ends-at b [] = b
+ends-at b (a ∷ later) = ends-at (b + a .shift) later
+
+-- the fuel of the steps is never short: more changes nothing, and the run ends past the text's end, as document 01's "while" does
+unfoldable pub Fuel-enough : Type 0
+Fuel-enough =
+    (f : ℕ → ℕ) (N : ℕ) (w : List ℕ) → 1 ≤ length w → (fuel b s : ℕ) → N < b + fuel →
+    ((more : ℕ) → alignments-from (fuel + more) f N w b s ≡ alignments-from fuel f N w b s)
+    × (N < ends-at b (alignments-from fuel f N w b s) + length w)
+
+-- demand 2: the occurrences that the steps list are exactly those by meaning, each once and ascending
+unfoldable pub Occurrences-right : Type 0
+Occurrences-right =
+    (f : ℕ → ℕ) (N : ℕ) (w : List ℕ) → 1 ≤ length w → listed (alignments f N w) ≡ all-occurrences f N w
+
+-- two texts show the same byte at every text position of these comparisons
+unfoldable pub Same-at : List Comparison → (f g : ℕ → ℕ) → Type 0
+Same-at [] f g = Unit {0}
+Same-at (c ∷ later) f g = (f (c .text-position) ≡ g (c .text-position)) × Same-at later f g
+
+-- demand 3: texts of one span that show the same byte wherever the first search compares have the same alignments,
+-- and so the same comparisons in the same order and the same occurrences
+unfoldable pub Comparisons-decide : Type 0
+Comparisons-decide =
+    (f g : ℕ → ℕ) (N : ℕ) (w : List ℕ) → 1 ≤ length w → Same-at (comparisons-of (alignments f N w)) f g →
+    alignments g N w ≡ alignments f N w
+
+-- the bound of demand 3 for m, n, h finds and the period p: 2 × n - m + h × (the larger of 0 and m - 2 × p); 0 for n below m
+unfoldable pub bound : (m n h p : ℕ) → ℕ
+bound m n h p = cond (ltb n m) 0 (2 * n - m + h * (m - 2 * p))
+
+-- demand 3: the count of comparisons keeps the bound
+unfoldable pub Few-comparisons : Type 0
+Few-comparisons =
+    (f : ℕ → ℕ) (N : ℕ) (w : List ℕ) → 1 ≤ length w →
+    length (comparisons-of (alignments f N w)) ≤ bound (length w) N (length (all-occurrences f N w)) (period w)

@@ -1,0 +1,120 @@
+-- `writer::write_job` meets its contract: past the refusals the first line, the pattern's lines and the text's lines are put one after another.
+-- Assumes nothing.
+use mathlib.Core.List.{List, _++_}
+use mathlib.Core.Path.{_≡_, refl, sym, _∙_}
+use Prim.Native.Nat.{ℕ, zero, suc, _+_, _*_}
+use native.Mathlib.Omega.{arith}
+use borrow.Author.Needs.{needs}
+use lib.ListN.{length, take, length-append}
+use Rattle.answers.proofs.Fronts.{in-front-append}
+use Rattle.answers.specs.Answers.{status-only, if-done}
+use Rattle.answers.specs.Buffers.{in-front}
+use Rattle.job.proofs.Lines.{length-first-line, length-lines}
+use Rattle.job.proofs.Taken.{Writable, writable}
+use Rattle.writer.proofs.write_job.Statement.{statement}
+use Rattle.writer.proofs.write_job.Tie as tie
+use Rattle.job.specs.Job.{first-line, lines, job-file, file-length}
+use Rattle.job.specs.Write.{write-answer, Write-outcome-of}
+use Rattle.job.specs.declared.WriteAnswer.{WriteAnswer}
+
+abbrev answered : (status bytes : ℕ) → WriteAnswer
+answered s b = record { answer = status-only s; bytes = b }
+
+-- a refused call answers its status and leaves the file
+refused : (s q : ℕ) (w t file : List ℕ) (r : WriteAnswer) → (s ≡ 0 → ⊥) → r ≡ answered s 0 → Write-outcome-of s q w t file file r
+unfolding if-done write-answer
+refused zero q w t file r h e = absurd (h refl)
+refused (suc s) q w t file r h e = record { answer = e; file-left = refl }
+
+-- a call that is done answers the file's length and leaves the job file in front
+done : (q : ℕ) (w t file file' : List ℕ) (r : WriteAnswer)
+    → r ≡ answered 0 (file-length (length w) (length t)) → file' ≡ in-front (job-file q w t) file → Write-outcome-of 0 q w t file file' r
+unfolding if-done write-answer
+done q w t file file' r e f = record { answer = e; file-left = f }
+
+-- the three parts, one after another, are the job file
+all-written : (q : ℕ) (w t file file₁ file₂ file₃ : List ℕ)
+    → file₁ ≡ in-front (first-line (length w) q (length t)) file
+    → file₂ ≡ in-front (take 11 file₁ ++ lines w) file₁
+    → file₃ ≡ in-front (take (11 + 3 * length w) file₂ ++ lines t) file₂
+    → file₃ ≡ in-front (job-file q w t) file
+unfolding job-file
+all-written q w t file file₁ file₂ file₃ e₁ e₂ e₃ =
+    let first = first-line (length w) q (length t) in
+    let l : length (first ++ lines w) ≡ 11 + 3 * length w = rw (length-append, length-first-line, length-lines) in
+    rw (e₃, e₂, e₁, in-front-append first (lines w) file 11 (length-first-line (length w) q (length t)))
+    (in-front-append (first ++ lines w) (lines t) file (11 + 3 * length w) l)
+
+-- past the refusals the numbers are within their limits
+in-limits : (c : tie.Else1)
+    → let args = c .before .before .before .before .before .args in
+    Writable (length (args .pattern .now)) (args .hold) (length (args .text .now)) (length (args .file .now))
+in-limits c = writable _ _ _ _ (sym (c .before .write-status .ensures) ∙ c .if1 .left)
+
+returns : tie.Need-returns
+returns c =
+    rw (← c .before .before .write-status .ensures) (refused _ _ _ _ _ _ (c .before .if1 .taken) (c .answer .ensures))
+
+mul-text-at : tie.Need-mul-text-at
+mul-text-at c = omega (arith, in-limits c)
+
+add-text-at : tie.Need-add-text-at
+add-text-at c = omega (arith, in-limits c)
+
+mul-bytes : tie.Need-mul-bytes
+mul-bytes c = omega (arith, in-limits c)
+
+add-bytes : tie.Need-add-bytes
+add-bytes c = omega (arith, in-limits c)
+
+cast-write-first-line : tie.Need-cast-write-first-line
+cast-write-first-line c = omega (arith, in-limits c)
+
+cast-write-first-line-2 : tie.Need-cast-write-first-line-2
+cast-write-first-line-2 c = omega (arith, in-limits c)
+
+cast-write-first-line-3 : tie.Need-cast-write-first-line-3
+cast-write-first-line-3 c = omega (arith, in-limits c)
+
+write-first-line-requires : tie.Need-write-first-line-requires
+write-first-line-requires c κs = omega (arith, in-limits (c .before))
+
+write-lines-requires : tie.Need-write-lines-requires
+write-lines-requires c κs = omega (arith, in-limits (c .before .before .before .before .before))
+
+write-lines-requires-2 : tie.Need-write-lines-requires-2
+write-lines-requires-2 c κs = omega (arith, in-limits (c .before .before .before .before .before .before .before .before .before))
+
+cast-answer : tie.Need-cast-answer
+cast-answer c = omega (arith, in-limits (c .before .before .before .before .before .before .before .before .before .before .before .before))
+
+returns-2 : tie.Need-returns-2
+returns-2 c =
+    let c₂ = c .before .before .before in
+    let c₁ = c₂ .before .before .before .before in
+    let c₀ = c₁ .before .before .before .before in
+    let status = c₀ .before .before .before in
+    rw (← status .write-status .ensures, c₀ .before .before .if1 .left)
+    (done _ _ _ _ _ _ (c .answer2 .ensures) (all-written _ _ _ _ _ _ _ (c₀ .write-first-line .ensures) (c₁ .write-lines .ensures) (c₂ .write-lines2 .ensures)))
+
+pub write-job-spec : {M : Type 1} → statement M
+write-job-spec =
+    tie.close
+    (tie.spec
+    (λ c κs. search needs)
+    (λ c κs. search needs)
+    returns
+    mul-text-at
+    add-text-at
+    mul-bytes
+    add-bytes
+    cast-write-first-line
+    cast-write-first-line-2
+    cast-write-first-line-3
+    write-first-line-requires
+    write-lines-requires
+    write-lines-requires-2
+    cast-answer
+    (λ c κs. search needs)
+    (λ c. search needs)
+    returns-2)

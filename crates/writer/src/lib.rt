@@ -1,0 +1,100 @@
+// Writing a job file.
+ghost use mathlib.Core.List.{_++_};
+ghost use mathlib.Core.Path.{_≡_};
+ghost use Prim.Native.Nat.{_+_, _*_, _≤_};
+ghost use lib.ListN.{length, take};
+ghost use Rattle.answers.specs.Answers.{status-only};
+ghost use Rattle.answers.specs.Buffers.{in-front};
+ghost use Rattle.hex.specs.Hex.{digits};
+ghost use Rattle.job.specs.Job.{lines, first-line};
+ghost use Rattle.job.specs.Write.{write-status, Write-outcome};
+use answers::Answer;
+use job::LINE_END;
+use job::WriteAnswer;
+
+// The status of writing, measured before anything is written.
+fn write_status(m: usize, q: u32, n: usize, file: usize) -> u32
+    ensures { λ r. ⌜ r ≡ write-status m q n file ⌝ }
+{
+    if m == 0 || 128 < m {
+        return 4;
+    }
+    if m <= q as usize {
+        return 5;
+    }
+    if 16384 < n {
+        return 6;
+    }
+    if file < 11 + 3 * m + 3 * n {
+        return 7;
+    }
+    0
+}
+
+// Writes a byte in two digits after the first entries, as many as `at` says.
+fn write_byte(byte: u8, at: usize, out: &mut [u8])
+    requires { ⌜ at + 2 ≤ length (now out) ⌝ }
+    ensures { λ r. ⌜ now (out .exit) ≡ in-front (take at (now (out .entry)) ++ digits 2 byte) (now (out .entry)) ⌝ }
+{
+    out[at] = hex::digit_of(byte / 16);
+    out[at + 1] = hex::digit_of(byte);
+}
+
+// Writes the first line of a job file.
+fn write_first_line(m: u8, q: u8, n: u16, out: &mut [u8])
+    requires { ⌜ 11 ≤ length (now out) ⌝ }
+    ensures { λ r. ⌜ now (out .exit) ≡ in-front (first-line m q n) (now (out .entry)) ⌝ }
+{
+    write_byte(1, 0, out);
+    write_byte(m, 2, out);
+    write_byte(q, 4, out);
+    write_byte((n / 256) as u8, 6, out);
+    write_byte((n % 256) as u8, 8, out);
+    out[10] = LINE_END;
+}
+
+// Writes a line for each byte after the first entries, as many as `at` says.
+fn write_lines(bytes: &[u8], at: usize, out: &mut [u8])
+    requires { ⌜ at + 3 * length (now bytes) ≤ length (now out) ⌝ }
+    ensures { λ r. ⌜ now (out .exit) ≡ in-front (take at (now (out .entry)) ++ lines (now (bytes .entry))) (now (out .entry)) ⌝ }
+{
+    for i in 0..bytes.len() {
+        let next = at + 3 * i;
+        write_byte(bytes[i], next, out);
+        out[next + 2] = LINE_END;
+    }
+}
+
+// Writes the job file of a hold offset (hold place), a pattern (motif) and a text (chain).
+#[no_mangle]
+pub extern "C" fn write_job(hold: u32, pattern: &[u8], text: &[u8], file: &mut [u8]) -> WriteAnswer
+    ensures { λ r. ⌜ Write-outcome hold (now (pattern .entry)) (now (text .entry)) (now (file .entry)) (now (file .exit)) r ⌝ }
+{
+    let m = pattern.len();
+    let n = text.len();
+    let status = write_status(m, hold, n, file.len());
+    if status != 0 {
+        return answer(status, 0);
+    }
+    let text_at = 11 + 3 * m;
+    let bytes = text_at + 3 * n;
+    write_first_line(m as u8, hold as u8, n as u16, file);
+    write_lines(pattern, 11, file);
+    write_lines(text, text_at, file);
+    answer(0, bytes as u32)
+}
+
+// The answer of a status and a file's length.
+fn answer(status: u32, bytes: u32) -> WriteAnswer
+    ensures { λ r. ⌜ r ≡ record { answer = status-only status; bytes = bytes } ⌝ }
+{
+    WriteAnswer {
+        answer: Answer {
+            status,
+            occurrences: 0,
+            comparisons: 0,
+            ones: 0,
+        },
+        bytes,
+    }
+}
