@@ -1,18 +1,14 @@
-//! Tells cargo where the static libraries are that `rt staticlib NAME` writes at the repository's
-//! root, and whether the programs are there that `rt check` writes. A file under library/ names the
-//! archive that it links (`#[link]`), so a test program links only what it uses, and the model's own
-//! tests need none.
-//!
-//! One more library NAME is: its name in the list below and in .ci/run, its calls in
-//! library/NAME.rs, and its tests in tests/NAME.rs.
+//! Tells cargo where the static library is that `rt staticlib ruffarmoire` writes at the repository's
+//! root, and whether the program is there that `rt check` writes. library/ruffarmoire.rs names the
+//! archive that it links (`#[link]`), so the model's own tests need none.
 
 use std::path::Path;
 
-/// The archives that the files under library/ link.
-const ARCHIVES: [&str; 5] = ["job", "prepare", "matcher", "converter", "report"];
+/// The archive of the library.
+const ARCHIVE: &str = "ruffarmoire";
 
-/// The programs that tests run.
-const PROGRAMS: [&str; 1] = ["seek"];
+/// The program that tests run.
+const PROGRAM: &str = "seek";
 
 fn main() {
     let package = std::env::var("CARGO_MANIFEST_DIR").expect("cargo sets it");
@@ -20,14 +16,10 @@ fn main() {
     let archives = target.join("staticlib");
     println!("cargo::rerun-if-changed=build.rs");
     println!("cargo::rustc-link-search=native={}", archives.display());
-    for name in ARCHIVES {
-        let archive = archives.join(format!("lib{name}.a"));
-        tell("archive", name, &archive, "rt staticlib");
-    }
-    for name in PROGRAMS {
-        let program = target.join("bin").join(name);
-        tell("program", name, &program, "rt check");
-    }
+    let archive = archives.join(format!("lib{ARCHIVE}.a"));
+    tell("archive", ARCHIVE, &archive, "rt staticlib");
+    let program = target.join("bin").join(PROGRAM);
+    tell("program", PROGRAM, &program, "rt check");
 }
 
 /// Sets `cfg(KIND = "NAME")` where the file is there, and warns where it is not.

@@ -23,11 +23,11 @@
 //!
 //! # Commands
 //!
-//! In this folder. Those of the libraries and of SEEK need, at the repository's root and first,
-//! `rt staticlib NAME` for each of job, prepare, matcher, converter and report, and `rt check seek`.
+//! In this folder. Those of the library and of SEEK need, at the repository's root and first,
+//! `rt staticlib ruffarmoire` and `rt check seek`.
 //!
 //! - `cargo test --release --lib --test worked_examples --test consistency`: the model's own tests.
-//! - `cargo test --release`: also the tests of the libraries and of SEEK against the model.
+//! - `cargo test --release`: also the tests of the library and of SEEK against the model.
 //! - `cargo run --release --example bench`: their speed beside [`baseline`].
 
 pub mod answers;

@@ -1,4 +1,4 @@
-//! The library `converter`, written in Rattle, against the model.
+//! Converting and counting by the library, written in Rattle, against the model.
 
 #[macro_use]
 #[path = "common/harness.rs"]
@@ -20,7 +20,7 @@ mod words;
 #[path = "common/converter_suite.rs"]
 mod converter_suite;
 
-#[path = "../library/converter.rs"]
+#[path = "../library/ruffarmoire.rs"]
 mod library;
 
 use converter_suite::ConverterCalls;

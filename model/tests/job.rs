@@ -1,4 +1,4 @@
-//! The library `job`, written in Rattle, against the model.
+//! Reading and writing job files by the library, written in Rattle, against the model.
 
 #[macro_use]
 #[path = "common/harness.rs"]
@@ -11,7 +11,7 @@ mod examples;
 #[path = "common/job_suite.rs"]
 mod job_suite;
 
-#[path = "../library/job.rs"]
+#[path = "../library/ruffarmoire.rs"]
 mod library;
 
 use job_suite::JobCalls;

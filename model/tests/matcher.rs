@@ -1,4 +1,4 @@
-//! The library `matcher`, written in Rattle, against the model.
+//! Searching by the library, written in Rattle, against the model.
 
 #[macro_use]
 #[path = "common/harness.rs"]
@@ -20,7 +20,7 @@ mod words;
 #[path = "common/matcher_suite.rs"]
 mod matcher_suite;
 
-#[path = "../library/matcher.rs"]
+#[path = "../library/ruffarmoire.rs"]
 mod library;
 
 use matcher_suite::MatcherCalls;

@@ -1,4 +1,4 @@
-//! The library `prepare`, written in Rattle, against the model.
+//! Preparing a pattern by the library, written in Rattle, against the model.
 
 #[macro_use]
 #[path = "common/harness.rs"]
@@ -14,7 +14,7 @@ mod words;
 #[path = "common/prepare_suite.rs"]
 mod prepare_suite;
 
-#[path = "../library/prepare.rs"]
+#[path = "../library/ruffarmoire.rs"]
 mod library;
 
 use prepare_suite::PrepareCalls;

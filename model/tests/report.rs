@@ -1,4 +1,4 @@
-//! The library `report`, written in Rattle, against the model.
+//! What SEEK prints, by the library, written in Rattle, against the model.
 
 #[macro_use]
 #[path = "common/harness.rs"]
@@ -14,7 +14,7 @@ mod files;
 #[path = "common/report_suite.rs"]
 mod report_suite;
 
-#[path = "../library/report.rs"]
+#[path = "../library/ruffarmoire.rs"]
 mod library;
 
 use report_suite::ReportCalls;

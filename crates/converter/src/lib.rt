@@ -53,8 +53,7 @@ fn convert_status(
 }
 
 // Converts a text (chain) to frames, by a pattern (motif) and a hold offset (hold place).
-#[no_mangle]
-pub extern "C" fn convert(
+pub fn convert(
     hold: u32,
     pattern: &[u8],
     text: &[u8],

@@ -28,8 +28,7 @@ fn search_status(
 
 // Lists every occurrence (find) of the pattern (motif) in the text (chain), and counts the comparisons (looks). Tables that stand in
 // the caller's buffers are not trusted: they are worked out anew.
-#[no_mangle]
-pub extern "C" fn search(
+pub fn search(
     pattern: &[u8],
     text: &[u8],
     order: &mut [i16],

@@ -18,8 +18,7 @@ fn ones_of(text: &[u8]) -> u32
 }
 
 // Counts the ones of a text (the holes of a chain).
-#[no_mangle]
-pub extern "C" fn count_ones(text: &[u8]) -> Answer
+pub fn count_ones(text: &[u8]) -> Answer
     ensures { λ r. ⌜ r ≡ count-answer (now (text .entry)) ⌝ }
 {
     if 16384 < text.len() {

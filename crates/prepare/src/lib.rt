@@ -26,8 +26,7 @@ pub fn write_tables(pattern: &[u8], order: &mut [i16], delta2: &mut [u16], delta
 }
 
 // Prepares a pattern (motif): works its order, Δ2 and Δ1 out into the caller's buffers.
-#[no_mangle]
-pub extern "C" fn prepare(
+pub fn prepare(
     pattern: &[u8],
     order: &mut [i16],
     delta2: &mut [u16],

@@ -181,8 +181,7 @@ fn refused(status: u32) -> ReadAnswer
 }
 
 // Reads a job file into the caller's buffers for pattern (motif) and text (chain).
-#[no_mangle]
-pub extern "C" fn read_job(file: &[u8], pattern: &mut [u8], text: &mut [u8]) -> ReadAnswer
+pub fn read_job(file: &[u8], pattern: &mut [u8], text: &mut [u8]) -> ReadAnswer
     ensures { λ r. ⌜ Read-outcome (now (file .entry)) (now (pattern .entry)) (now (pattern .exit)) (now (text .entry)) (now (text .exit)) r ⌝ }
 {
     if file.len() < 11 {

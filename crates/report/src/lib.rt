@@ -33,8 +33,7 @@ fn report_taken(hold: u32, pattern: &[u8], text: &[u8], out: &mut [u8]) -> Repor
 }
 
 // Writes what SEEK prints for the job of a file.
-#[no_mangle]
-pub extern "C" fn seek_report(file: &[u8], out: &mut [u8]) -> ReportAnswer
+pub fn seek_report(file: &[u8], out: &mut [u8]) -> ReportAnswer
     ensures { λ r. ⌜ Report-outcome (now (file .entry)) (now (out .entry)) (now (out .exit)) r ⌝ }
 {
     let mut pattern: [u8; 128] = [0; 128];

@@ -66,8 +66,7 @@ fn write_lines(bytes: &[u8], at: usize, out: &mut [u8])
 }
 
 // Writes the job file of a hold offset (hold place), a pattern (motif) and a text (chain).
-#[no_mangle]
-pub extern "C" fn write_job(hold: u32, pattern: &[u8], text: &[u8], file: &mut [u8]) -> WriteAnswer
+pub fn write_job(hold: u32, pattern: &[u8], text: &[u8], file: &mut [u8]) -> WriteAnswer
     ensures { λ r. ⌜ Write-outcome hold (now (pattern .entry)) (now (text .entry)) (now (file .entry)) (now (file .exit)) r ⌝ }
 {
     let m = pattern.len();

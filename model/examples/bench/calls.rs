@@ -7,9 +7,9 @@ use ruffarmoire_model::gen::{Random, Shape};
 use ruffarmoire_model::job::{self, Job};
 use ruffarmoire_model::{baseline, calls, convert, seek};
 
+use crate::library;
 use crate::table_buffers::TableBuffers;
 use crate::timing::{medians, Timed};
-use crate::{converter_library, job_library, report_library};
 
 pub fn run() {
     let job = Shape::AnyBytes.job(&mut Random::seeded(31), 128, 16_384);
@@ -27,35 +27,35 @@ pub fn run() {
     print(
         "read_job",
         [
-            reading(&job, &file, job_library::read_job),
+            reading(&job, &file, library::read_job),
             reading(&job, &file, baseline::job::read_job),
         ],
     );
     print(
         "write_job",
         [
-            writing(&job, &file, job_library::write_job),
+            writing(&job, &file, library::write_job),
             writing(&job, &file, baseline::job::write_job),
         ],
     );
     print(
         "convert",
         [
-            converting(&job, converter_library::convert),
+            converting(&job, library::convert),
             converting(&job, baseline::converter::convert),
         ],
     );
     print(
         "count_ones",
         [
-            counting(&job, converter_library::count_ones),
+            counting(&job, library::count_ones),
             counting(&job, baseline::converter::count_ones),
         ],
     );
     print(
         "seek_report",
         [
-            reporting(&file, report_library::seek_report),
+            reporting(&file, library::seek_report),
             reporting(&file, baseline::report::seek_report),
         ],
     );

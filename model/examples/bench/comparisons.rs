@@ -2,7 +2,7 @@
 
 use ruffarmoire_model::gen::Random;
 
-use crate::matcher_library::search;
+use crate::library::search;
 use crate::table_buffers::TableBuffers;
 
 /// The bytes of each text, and how many patterns are searched in it, as for the table.

@@ -1,8 +1,7 @@
-//! The speed of the Rattle libraries and of SEEK, beside plain Rust versions with the same contracts
+//! The speed of the Rattle library and of SEEK, beside plain Rust versions with the same contracts
 //! and beside other ways to the same end; and the number of comparisons beside document 002's.
 //!
-//!     for c in job prepare matcher converter report; do rt staticlib $c; done
-//!     rt check seek                              (both at the repository's root)
+//!     rt staticlib ruffarmoire; rt check seek    (at the repository's root)
 //!     cargo run --release --example bench        (in this folder; all of it)
 //!     cargo run --release --example bench -- search program    (only these parts)
 //!
@@ -12,16 +11,8 @@
 //! call and not cleared between. Before anything is timed, it is seen to give the same result as
 //! what it is compared with.
 
-#[path = "../../library/converter.rs"]
-mod converter_library;
-#[path = "../../library/job.rs"]
-mod job_library;
-#[path = "../../library/matcher.rs"]
-mod matcher_library;
-#[path = "../../library/prepare.rs"]
-mod prepare_library;
-#[path = "../../library/report.rs"]
-mod report_library;
+#[path = "../../library/ruffarmoire.rs"]
+mod library;
 #[path = "../../library/seek.rs"]
 mod seek_program;
 

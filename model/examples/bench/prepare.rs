@@ -7,7 +7,7 @@ use ruffarmoire_model::answers::Answer;
 use ruffarmoire_model::baseline::tables::{prepare, prepare_as_listed};
 use ruffarmoire_model::gen::Random;
 
-use crate::prepare_library;
+use crate::library;
 use crate::table_buffers::TableBuffers;
 use crate::timing::{medians, Timed};
 
@@ -43,7 +43,7 @@ pub fn run() {
             });
             let [fill, rattle, rust, listings] = medians([
                 fill,
-                timed(&patterns, prepare_library::prepare),
+                timed(&patterns, library::prepare),
                 timed(&patterns, prepare),
                 timed(&patterns, prepare_as_listed),
             ]);

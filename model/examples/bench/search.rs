@@ -1,17 +1,17 @@
 //! Searching, beside the same algorithm in plain Rust, beside the C library's `memmem` in a loop
-//! that finds overlapping occurrences, and beside a plain scan. The run of the steps alone is what
-//! a whole search takes beyond preparing its pattern.
+//! that finds overlapping occurrences, and beside a plain scan. "Tables apart" is what a search takes
+//! beyond the same search of an empty text, which works the tables out and makes no step.
 
+use std::cell::RefCell;
 use std::hint::black_box;
 
 use ruffarmoire_model::answers::Answer;
-use ruffarmoire_model::baseline::{matcher, tables};
+use ruffarmoire_model::baseline::matcher;
 use ruffarmoire_model::gen::Random;
 
-use crate::prepare;
+use crate::library;
 use crate::table_buffers::TableBuffers;
-use crate::timing::{medians, Timed};
-use crate::{matcher_library, prepare_library};
+use crate::timing::{median_differences, medians, Timed};
 
 /// The bytes of each text.
 const N: usize = 16_384;
@@ -53,16 +53,22 @@ pub fn run() {
 type Pair = (Vec<u8>, Vec<u8>);
 
 fn print(kind: Kind, m: usize, pairs: &[Pair]) {
-    let patterns: Vec<Vec<u8>> = pairs.iter().map(|(pattern, _)| pattern.clone()).collect();
-    let [rattle, rust, memmem, scan, rattle_tables, rust_tables] = medians([
-        searching(pairs, matcher_library::search),
+    let no_text: Vec<Pair> = pairs
+        .iter()
+        .map(|(pattern, _)| (pattern.clone(), vec![]))
+        .collect();
+    let buffers = RefCell::new(Buffers::needed(m));
+    let searching = |pairs, call| searching(pairs, call, &buffers);
+    let [rattle, rust, memmem, scan] = medians([
+        searching(pairs, library::search),
         searching(pairs, matcher::search),
         finding(pairs, matcher::occurrences_by_memmem),
         finding(pairs, matcher::occurrences_by_scan),
-        prepare::timed(&patterns, prepare_library::prepare),
-        prepare::timed(&patterns, tables::prepare),
     ]);
-    let (rattle_apart, rust_apart) = (rattle - rattle_tables, rust - rust_tables);
+    let [rattle_apart, rust_apart] = median_differences(
+        [library::search, matcher::search]
+            .map(|call: Search| [searching(pairs, call), searching(&no_text, call)]),
+    );
     let comparisons = comparisons(pairs) as f64 / PAIRS as f64;
     println!(
         "{m:4} {:24} | {rattle:8.1} {rust:8.1} {memmem:8.1} {scan:8.1} {:12.2} {:14.2} {:12.2} | \
@@ -143,38 +149,61 @@ type Search = fn(&[u8], &[u8], &mut [i16], &mut [u16], &mut [u16], &mut [u16]) -
 /// A call that finds occurrences and does nothing else.
 type Find = fn(&[u8], &[u8], &mut [u16]) -> usize;
 
-/// A search's answer, with its occurrences in the buffer.
-fn search(call: Search, pair: &Pair, tables: &mut TableBuffers, found: &mut [u16]) -> Answer {
-    let (pattern, text) = black_box(pair);
-    let (order, delta2) = (&mut tables.order, &mut tables.delta2);
-    let answer = call(pattern, text, order, delta2, &mut tables.delta1, found);
-    black_box((answer, tables, found)).0
+/// The buffers of a search.
+struct Buffers {
+    tables: TableBuffers,
+    found: Vec<u16>,
 }
 
-fn searching(pairs: &[Pair], call: Search) -> Timed<'_> {
-    let mut tables = TableBuffers::needed(pairs[0].0.len());
-    let (mut found, mut expected) = (vec![0; N], vec![0; N]);
+impl Buffers {
+    fn needed(m: usize) -> Buffers {
+        Buffers {
+            tables: TableBuffers::needed(m),
+            found: vec![0; N],
+        }
+    }
+}
+
+/// A search's answer, with its occurrences in the buffer.
+fn search(call: Search, pair: &Pair, buffers: &mut Buffers) -> Answer {
+    let (pattern, text) = black_box(pair);
+    let tables = &mut buffers.tables;
+    let (order, delta2) = (&mut tables.order, &mut tables.delta2);
+    let answer = call(
+        pattern,
+        text,
+        order,
+        delta2,
+        &mut tables.delta1,
+        &mut buffers.found,
+    );
+    black_box((answer, buffers)).0
+}
+
+fn searching<'a>(pairs: &'a [Pair], call: Search, buffers: &'a RefCell<Buffers>) -> Timed<'a> {
+    let mut expected = Buffers::needed(pairs[0].0.len());
     for pair in pairs {
-        let answer = search(call, pair, &mut tables, &mut found);
-        let other = search(matcher::search, pair, &mut tables, &mut expected);
+        let answer = search(call, pair, &mut buffers.borrow_mut());
+        let other = search(matcher::search, pair, &mut expected);
         let h = answer.occurrences as usize;
-        assert_eq!((answer, &found[..h]), (other, &expected[..h]));
+        let found = &buffers.borrow().found;
+        assert_eq!((answer, &found[..h]), (other, &expected.found[..h]));
     }
     Timed::new(pairs.len(), move || {
         for pair in pairs {
-            search(call, pair, &mut tables, &mut found);
+            search(call, pair, &mut buffers.borrow_mut());
         }
     })
 }
 
 fn finding(pairs: &[Pair], call: Find) -> Timed<'_> {
-    let mut tables = TableBuffers::needed(pairs[0].0.len());
-    let (mut found, mut expected) = (vec![0; N], vec![0; N]);
+    let mut expected = Buffers::needed(pairs[0].0.len());
+    let mut found = vec![0; N];
     for pair in pairs {
         let count = call(&pair.0, &pair.1, &mut found);
-        let answer = search(matcher::search, pair, &mut tables, &mut expected);
+        let answer = search(matcher::search, pair, &mut expected);
         assert_eq!(count, answer.occurrences as usize);
-        assert_eq!(found[..count], expected[..count]);
+        assert_eq!(found[..count], expected.found[..count]);
     }
     Timed::new(pairs.len(), move || {
         for pair in pairs {
@@ -187,10 +216,9 @@ fn finding(pairs: &[Pair], call: Find) -> Timed<'_> {
 
 /// The comparisons of all these searches.
 fn comparisons(pairs: &[Pair]) -> u32 {
-    let mut tables = TableBuffers::needed(pairs[0].0.len());
-    let mut found = vec![0; N];
+    let mut buffers = Buffers::needed(pairs[0].0.len());
     pairs
         .iter()
-        .map(|pair| search(matcher_library::search, pair, &mut tables, &mut found).comparisons)
+        .map(|pair| search(library::search, pair, &mut buffers).comparisons)
         .sum()
 }

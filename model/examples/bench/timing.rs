@@ -95,6 +95,47 @@ fn thread_seconds() -> f64 {
     time.seconds as f64 + time.nanoseconds as f64 * 1e-9
 }
 
+/// The least time of a sample whose difference from another is taken, in seconds.
+const DIFFERENCE_SAMPLE: f64 = 1e-3;
+
+/// The time that all such samples of a comparison take, in seconds, where the turns allow it.
+const DIFFERENCES: f64 = 0.8;
+
+/// The median over the turns of what a call of the first of each pair takes beyond a call of the
+/// second, in microseconds. Both are timed one right after the other, who goes first by turns, in
+/// samples so long that what ran before them does not count.
+pub fn median_differences<const N: usize>(mut pairs: [[Timed; 2]; N]) -> [f64; N] {
+    let first: [f64; N] = std::array::from_fn(|which| {
+        let [more, _] = &mut pairs[which];
+        more.seconds(1);
+        more.seconds(1)
+    });
+    let runs = first.map(|seconds| (DIFFERENCE_SAMPLE / seconds).ceil().clamp(1.0, 1e5) as usize);
+    let turn: f64 = (0..N)
+        .map(|which| 2.0 * first[which] * runs[which] as f64)
+        .sum();
+    let turns = (DIFFERENCES / turn).clamp(FEWEST as f64, TURNS as f64) as usize;
+
+    let mut differences = [const { Vec::new() }; N];
+    for turn in 0..turns {
+        for (which, pair) in pairs.iter_mut().enumerate() {
+            let mut taken = [0.0; 2];
+            for place in [turn % 2, 1 - turn % 2] {
+                taken[place] = pair[place].seconds(runs[which]) / runs[which] as f64;
+            }
+            differences[which].push(taken[0] - taken[1]);
+        }
+    }
+    std::array::from_fn(|which| {
+        median(&mut differences[which]) * 1e6 / pairs[which][0].calls as f64
+    })
+}
+
+fn median(samples: &mut [f64]) -> f64 {
+    samples.sort_by(f64::total_cmp);
+    samples[samples.len() / 2]
+}
+
 /// The median time of a call of each, in microseconds.
 pub fn medians<const N: usize>(mut all: [Timed; N]) -> [f64; N] {
     let first: [f64; N] = std::array::from_fn(|which| {
@@ -120,9 +161,5 @@ pub fn medians<const N: usize>(mut all: [Timed; N]) -> [f64; N] {
             }
         }
     }
-    std::array::from_fn(|which| {
-        let samples = &mut samples[which];
-        samples.sort_by(f64::total_cmp);
-        samples[samples.len() / 2] * 1e6 / all[which].calls as f64
-    })
+    std::array::from_fn(|which| median(&mut samples[which]) * 1e6 / all[which].calls as f64)
 }

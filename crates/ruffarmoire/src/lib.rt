@@ -1,0 +1,100 @@
+// The library as a Rust or C program links it: every public call, in one archive. Each takes any arguments, and promises what the call of the
+// same name does in its own room.
+use answers::Answer;
+use job::ReadAnswer;
+use job::WriteAnswer;
+use printer::ReportAnswer;
+ghost use mathlib.Core.Path.{_≡_};
+ghost use Rattle.converter.specs.Convert.{Convert-outcome};
+ghost use Rattle.job.specs.Read.{Read-outcome};
+ghost use Rattle.job.specs.Write.{Write-outcome};
+ghost use Rattle.matcher.specs.Search.{Search-outcome};
+ghost use Rattle.ones.specs.Ones.{count-answer};
+ghost use Rattle.report.specs.Report.{Report-outcome};
+ghost use Rattle.tables.specs.Prepare.{Prepare-outcome};
+
+// Reads a job file into the caller's buffers for pattern (motif) and text (chain).
+#[no_mangle]
+pub extern "C" fn read_job(file: &[u8], pattern: &mut [u8], text: &mut [u8]) -> ReadAnswer
+    ensures { λ r. ⌜ Read-outcome (now (file .entry)) (now (pattern .entry)) (now (pattern .exit)) (now (text .entry)) (now (text .exit)) r ⌝ }
+{
+    reader::read_job(file, pattern, text)
+}
+
+// Writes the job file of a hold offset (hold place), a pattern (motif) and a text (chain).
+#[no_mangle]
+pub extern "C" fn write_job(hold: u32, pattern: &[u8], text: &[u8], file: &mut [u8]) -> WriteAnswer
+    ensures { λ r. ⌜ Write-outcome hold (now (pattern .entry)) (now (text .entry)) (now (file .entry)) (now (file .exit)) r ⌝ }
+{
+    writer::write_job(hold, pattern, text, file)
+}
+
+// Prepares a pattern (motif): works its order, Δ2 and Δ1 out into the caller's buffers.
+#[no_mangle]
+pub extern "C" fn prepare(
+    pattern: &[u8],
+    order: &mut [i16],
+    delta2: &mut [u16],
+    delta1: &mut [u16],
+) -> Answer
+    ensures { λ r. ⌜ Prepare-outcome (now (pattern .entry)) (now (order .entry)) (now (order .exit)) (now (delta2 .entry)) (now (delta2 .exit)) (now (delta1 .entry)) (now (delta1 .exit)) r ⌝ }
+{
+    prepare::prepare(pattern, order, delta2, delta1)
+}
+
+// Lists every occurrence (find) of the pattern (motif) in the text (chain), and counts the comparisons (looks).
+#[no_mangle]
+pub extern "C" fn search(
+    pattern: &[u8],
+    text: &[u8],
+    order: &mut [i16],
+    delta2: &mut [u16],
+    delta1: &mut [u16],
+    found: &mut [u16],
+) -> Answer
+    ensures { λ r. ⌜ Search-outcome (now (pattern .entry)) (now (text .entry)) (now (order .entry)) (now (order .exit)) (now (delta2 .entry)) (now (delta2 .exit)) (now (delta1 .entry)) (now (delta1 .exit)) (now (found .entry)) (now (found .exit)) r ⌝ }
+{
+    matcher::search(pattern, text, order, delta2, delta1, found)
+}
+
+// Converts a text (chain) to frames, by a pattern (motif) and a hold offset (hold place).
+#[no_mangle]
+pub extern "C" fn convert(
+    hold: u32,
+    pattern: &[u8],
+    text: &[u8],
+    order: &mut [i16],
+    delta2: &mut [u16],
+    delta1: &mut [u16],
+    found: &mut [u16],
+    frames: &mut [u16],
+) -> Answer
+    ensures { λ r. ⌜ Convert-outcome hold (now (pattern .entry)) (now (text .entry)) (now (order .entry)) (now (order .exit)) (now (delta2 .entry)) (now (delta2 .exit)) (now (delta1 .entry)) (now (delta1 .exit)) (now (found .entry)) (now (found .exit)) (now (frames .entry)) (now (frames .exit)) r ⌝ }
+{
+    converter::convert(
+        hold,
+        pattern,
+        text,
+        order,
+        delta2,
+        delta1,
+        found,
+        frames,
+    )
+}
+
+// Counts the ones of a text (the holes of a chain).
+#[no_mangle]
+pub extern "C" fn count_ones(text: &[u8]) -> Answer
+    ensures { λ r. ⌜ r ≡ count-answer (now (text .entry)) ⌝ }
+{
+    ones::count_ones(text)
+}
+
+// Writes what SEEK prints for the job of a file.
+#[no_mangle]
+pub extern "C" fn seek_report(file: &[u8], out: &mut [u8]) -> ReportAnswer
+    ensures { λ r. ⌜ Report-outcome (now (file .entry)) (now (out .entry)) (now (out .exit)) r ⌝ }
+{
+    report::seek_report(file, out)
+}

@@ -1,0 +1,211 @@
+//! The calls of the Rattle library, as `rt staticlib ruffarmoire` builds it. The calls take any
+//! arguments, so the safe functions here only turn slices into pointers and lengths.
+
+// A test program calls only what it tests.
+#![allow(dead_code)]
+
+#[cfg(not(archive = "ruffarmoire"))]
+compile_error!(
+    "target/staticlib/libruffarmoire.a is missing. Run `rt staticlib ruffarmoire` at the repository's root first."
+);
+
+use ruffarmoire_model::answers::{Answer, ReadAnswer, ReportAnswer, WriteAnswer};
+
+mod foreign {
+    use super::{Answer, ReadAnswer, ReportAnswer, WriteAnswer};
+
+    #[link(name = "ruffarmoire", kind = "static")]
+    extern "C" {
+        pub fn read_job(
+            file: *const u8,
+            file_length: usize,
+            pattern: *mut u8,
+            pattern_length: usize,
+            text: *mut u8,
+            text_length: usize,
+        ) -> ReadAnswer;
+
+        pub fn write_job(
+            hold: u32,
+            pattern: *const u8,
+            pattern_length: usize,
+            text: *const u8,
+            text_length: usize,
+            file: *mut u8,
+            file_length: usize,
+        ) -> WriteAnswer;
+
+        pub fn prepare(
+            pattern: *const u8,
+            pattern_length: usize,
+            order: *mut i16,
+            order_length: usize,
+            delta2: *mut u16,
+            delta2_length: usize,
+            delta1: *mut u16,
+            delta1_length: usize,
+        ) -> Answer;
+
+        pub fn search(
+            pattern: *const u8,
+            pattern_length: usize,
+            text: *const u8,
+            text_length: usize,
+            order: *mut i16,
+            order_length: usize,
+            delta2: *mut u16,
+            delta2_length: usize,
+            delta1: *mut u16,
+            delta1_length: usize,
+            found: *mut u16,
+            found_length: usize,
+        ) -> Answer;
+
+        pub fn convert(
+            hold: u32,
+            pattern: *const u8,
+            pattern_length: usize,
+            text: *const u8,
+            text_length: usize,
+            order: *mut i16,
+            order_length: usize,
+            delta2: *mut u16,
+            delta2_length: usize,
+            delta1: *mut u16,
+            delta1_length: usize,
+            found: *mut u16,
+            found_length: usize,
+            frames: *mut u16,
+            frames_length: usize,
+        ) -> Answer;
+
+        pub fn count_ones(text: *const u8, text_length: usize) -> Answer;
+
+        pub fn seek_report(
+            file: *const u8,
+            file_length: usize,
+            out: *mut u8,
+            out_length: usize,
+        ) -> ReportAnswer;
+    }
+}
+
+pub fn read_job(file: &[u8], pattern: &mut [u8], text: &mut [u8]) -> ReadAnswer {
+    // SAFETY: each pointer and length is that of a slice that stays borrowed during the call.
+    unsafe {
+        foreign::read_job(
+            file.as_ptr(),
+            file.len(),
+            pattern.as_mut_ptr(),
+            pattern.len(),
+            text.as_mut_ptr(),
+            text.len(),
+        )
+    }
+}
+
+pub fn write_job(hold: u32, pattern: &[u8], text: &[u8], file: &mut [u8]) -> WriteAnswer {
+    // SAFETY: each pointer and length is that of a slice that stays borrowed during the call.
+    unsafe {
+        foreign::write_job(
+            hold,
+            pattern.as_ptr(),
+            pattern.len(),
+            text.as_ptr(),
+            text.len(),
+            file.as_mut_ptr(),
+            file.len(),
+        )
+    }
+}
+
+pub fn prepare(
+    pattern: &[u8],
+    order: &mut [i16],
+    delta2: &mut [u16],
+    delta1: &mut [u16],
+) -> Answer {
+    // SAFETY: each pointer and length is that of a slice that stays borrowed during the call.
+    unsafe {
+        foreign::prepare(
+            pattern.as_ptr(),
+            pattern.len(),
+            order.as_mut_ptr(),
+            order.len(),
+            delta2.as_mut_ptr(),
+            delta2.len(),
+            delta1.as_mut_ptr(),
+            delta1.len(),
+        )
+    }
+}
+
+pub fn search(
+    pattern: &[u8],
+    text: &[u8],
+    order: &mut [i16],
+    delta2: &mut [u16],
+    delta1: &mut [u16],
+    found: &mut [u16],
+) -> Answer {
+    // SAFETY: each pointer and length is that of a slice that stays borrowed during the call.
+    unsafe {
+        foreign::search(
+            pattern.as_ptr(),
+            pattern.len(),
+            text.as_ptr(),
+            text.len(),
+            order.as_mut_ptr(),
+            order.len(),
+            delta2.as_mut_ptr(),
+            delta2.len(),
+            delta1.as_mut_ptr(),
+            delta1.len(),
+            found.as_mut_ptr(),
+            found.len(),
+        )
+    }
+}
+
+#[allow(clippy::too_many_arguments)]
+pub fn convert(
+    hold: u32,
+    pattern: &[u8],
+    text: &[u8],
+    order: &mut [i16],
+    delta2: &mut [u16],
+    delta1: &mut [u16],
+    found: &mut [u16],
+    frames: &mut [u16],
+) -> Answer {
+    // SAFETY: each pointer and length is that of a slice that stays borrowed during the call.
+    unsafe {
+        foreign::convert(
+            hold,
+            pattern.as_ptr(),
+            pattern.len(),
+            text.as_ptr(),
+            text.len(),
+            order.as_mut_ptr(),
+            order.len(),
+            delta2.as_mut_ptr(),
+            delta2.len(),
+            delta1.as_mut_ptr(),
+            delta1.len(),
+            found.as_mut_ptr(),
+            found.len(),
+            frames.as_mut_ptr(),
+            frames.len(),
+        )
+    }
+}
+
+pub fn count_ones(text: &[u8]) -> Answer {
+    // SAFETY: the pointer and length are those of a slice that stays borrowed during the call.
+    unsafe { foreign::count_ones(text.as_ptr(), text.len()) }
+}
+
+pub fn seek_report(file: &[u8], out: &mut [u8]) -> ReportAnswer {
+    // SAFETY: each pointer and length is that of a slice that stays borrowed during the call.
+    unsafe { foreign::seek_report(file.as_ptr(), file.len(), out.as_mut_ptr(), out.len()) }
+}
