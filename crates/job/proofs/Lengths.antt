@@ -6,12 +6,17 @@ use Prim.Native.Nat.{ℕ, zero, suc, _+_, _*_}
 use native.Mathlib.Omega.{arith}
 use lib.ListN.{length, length-append}
 use Rattle.hex.specs.Hex.{digits}
-use Rattle.job.proofs.Lines.{length-lines}
+use Rattle.lines.proofs.Lines.{length-lines}
+use Rattle.lines.specs.Lines.{line}
 use Rattle.job.specs.Job.{first-line, job-file, file-length, m-in, n-in, bytes-in, pattern-in, text-in}
 
+pub length-first-line : (m q n : ℕ) → length (first-line m q n) ≡ 11
+unfolding first-line digits line
+length-first-line m q n = refl
+
 pub length-file : (q : ℕ) (w t : List ℕ) → length (job-file q w t) ≡ file-length (length w) (length t)
-unfolding job-file first-line digits
-length-file q w t = simp length-append (omega (arith, length-lines w, length-lines t))
+unfolding job-file
+length-file q w t = rw (length-append, length-append, length-first-line, length-lines, length-lines)
 
 pub length-bytes : (n a : ℕ) (bs : List ℕ) → length (bytes-in n a bs) ≡ n
 unfolding bytes-in

@@ -1,4 +1,3 @@
-pub mod Lines
 pub mod Lengths
 pub mod Taken
 pub mod RoundTrip

@@ -6,23 +6,15 @@ use lib.Dec.{ltb, eqb}
 use lib.ListN.{length, getD}
 use Rattle.answers.specs.Refusals.{Refusal, refuse, first-of, pattern-refusal, hold-refusal, text-refusal}
 use Rattle.hex.specs.Hex.{digits, all-digits, number}
-
--- each line is ended by byte 0A (hexadecimal)
-abbrev pub line-end : ℕ
-line-end = 0x0A
-
--- the lines of some bytes (cards): two digits and the line end for each
-unfoldable pub lines : (bytes : List ℕ) → List ℕ
-lines [] = []
-lines (c ∷ cs) = digits 2 c ++ (line-end ∷ []) ++ lines cs
+use Rattle.lines.specs.Lines.{line-end, line, lines}
 
 -- the first line has ten digits: edition 01, m in two, q in two, n in four
 unfoldable pub first-line : (m q n : ℕ) → List ℕ
-first-line m q n = digits 2 1 ++ digits 2 m ++ digits 2 q ++ digits 4 n ++ (line-end ∷ [])
+first-line m q n = digits 2 1 ++ digits 2 m ++ digits 2 q ++ line 4 n
 
--- the job file of a hold offset (hold place) q, a pattern (motif) and a text (chain): the first line, then m lines, then n lines
+-- the job file of a hold offset (hold place) q, a pattern (motif) and a text (chain): the first line, then m lines of two digits, then n
 unfoldable pub job-file : (q : ℕ) → (w t : List ℕ) → List ℕ
-job-file q w t = first-line (length w) q (length t) ++ lines w ++ lines t
+job-file q w t = first-line (length w) q (length t) ++ lines 2 w ++ lines 2 t
 
 -- the length is 11 + 3 × m + 3 × n bytes
 abbrev pub file-length : (m n : ℕ) → ℕ

@@ -18,6 +18,3 @@ pub struct WriteAnswer {
     // the file's length
     pub bytes: u32,
 }
-
-// What ends each line.
-pub const LINE_END: u8 = 0x0A;

@@ -26,12 +26,7 @@ pub fn write_tables(pattern: &[u8], order: &mut [i16], delta2: &mut [u16], delta
 }
 
 // Prepares a pattern (motif): works its order, Δ2 and Δ1 out into the caller's buffers.
-pub fn prepare(
-    pattern: &[u8],
-    order: &mut [i16],
-    delta2: &mut [u16],
-    delta1: &mut [u16],
-) -> Answer
+pub fn prepare(pattern: &[u8], order: &mut [i16], delta2: &mut [u16], delta1: &mut [u16]) -> Answer
     ensures { λ r. ⌜ Prepare-outcome (now (pattern .entry)) (now (order .entry)) (now (order .exit)) (now (delta2 .entry)) (now (delta2 .exit)) (now (delta1 .entry)) (now (delta1 .exit)) r ⌝ }
 {
     let status = prepare_status(pattern.len(), order.len(), delta2.len(), delta1.len());

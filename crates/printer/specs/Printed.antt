@@ -7,17 +7,8 @@ use Rattle.answers.specs.Answers.{status-only, if-done}
 use Rattle.answers.specs.Buffers.{in-front}
 use Rattle.answers.specs.Refusals.{first-of, buffer-refusal}
 use Rattle.hex.specs.Hex.{digits}
-use Rattle.job.specs.Job.{line-end}
+use Rattle.lines.specs.Lines.{line, lines}
 use Rattle.printer.specs.declared.ReportAnswer.{ReportAnswer}
-
--- a number in so many digits, capital hexadecimal, on a line of its own
-unfoldable pub line : (count number : ℕ) → List ℕ
-line n v = digits n v ++ (line-end ∷ [])
-
--- each number of a list in four digits, a line each
-unfoldable pub four-digit-lines : List ℕ → List ℕ
-four-digit-lines [] = []
-four-digit-lines (v ∷ vs) = line 4 v ++ four-digit-lines vs
 
 -- h in four digits, C in eight, the holes in eight, then each find in four, then each frame in four
 abbrev pub report-lines : (h C holes : ℕ) → (found frames : List ℕ) → List ℕ
@@ -25,8 +16,8 @@ report-lines h C holes found frames =
     line 4 h
     ++ line 8 C
     ++ line 8 holes
-    ++ four-digit-lines found
-    ++ four-digit-lines frames
+    ++ lines 4 found
+    ++ lines 4 frames
 
 -- of a job that is turned away: the single line FF followed by the refusal in two digits
 unfoldable pub refused-report : (status : ℕ) → List ℕ

@@ -5,9 +5,9 @@ ghost use Prim.Native.Nat.{_+_, _*_, _≤_};
 ghost use lib.ListN.{length, take};
 ghost use Rattle.answers.specs.Answers.{status-only};
 ghost use Rattle.answers.specs.Buffers.{in-front};
-ghost use Rattle.printer.specs.Printed.{line, four-digit-lines, report-lines, refused-report, Written};
+ghost use Rattle.lines.specs.Lines.{lines};
+ghost use Rattle.printer.specs.Printed.{report-lines, refused-report, Written};
 use answers::Answer;
-use job::LINE_END;
 
 // What writing a report answers.
 #[repr(C)]
@@ -17,28 +17,13 @@ pub struct ReportAnswer {
     pub bytes: u32,
 }
 
-// Writes a line of so many digits after the first entries, as many as `at` says.
-fn write_line(count: usize, number: u32, at: usize, out: &mut [u8])
-    requires { ⌜ at + count + 1 ≤ length (now out) ⌝ }
-    ensures { λ r. ⌜ now (out .exit) ≡ in-front (take at (now (out .entry)) ++ line count number) (now (out .entry)) ⌝ }
-{
-    let mut rest = number;
-    let mut left = count;
-    while 0 < left {
-        left -= 1;
-        out[at + left] = hex::digit_of((rest % 16) as u8);
-        rest /= 16;
-    }
-    out[at + count] = LINE_END;
-}
-
 // Writes a line of four digits for each number after the first entries, as many as `at` says.
 fn write_lines(numbers: &[u16], at: usize, out: &mut [u8])
     requires { ⌜ at + 5 * length (now numbers) ≤ length (now out) ⌝ }
-    ensures { λ r. ⌜ now (out .exit) ≡ in-front (take at (now (out .entry)) ++ four-digit-lines (now (numbers .entry))) (now (out .entry)) ⌝ }
+    ensures { λ r. ⌜ now (out .exit) ≡ in-front (take at (now (out .entry)) ++ lines 4 (now (numbers .entry))) (now (out .entry)) ⌝ }
 {
     for i in 0..numbers.len() {
-        write_line(4, numbers[i] as u32, at + 5 * i, out);
+        lines::write_line(4, numbers[i] as u32, at + 5 * i, out);
     }
 }
 
@@ -64,9 +49,8 @@ pub fn write_refused(status: u32, out: &mut [u8]) -> ReportAnswer
     if out.len() < 5 {
         return answer(7, 0);
     }
-    out[0] = b'F';
-    out[1] = b'F';
-    write_line(2, status, 2, out);
+    lines::write_digits(2, 0xFF, 0, out);
+    lines::write_line(2, status, 2, out);
     answer(0, 5)
 }
 
@@ -81,9 +65,9 @@ pub fn write_done(converted: Answer, found: &[u16], frames: &[u16], out: &mut [u
     if out.len() < bytes {
         return answer(7, 0);
     }
-    write_line(4, converted.occurrences, 0, out);
-    write_line(8, converted.comparisons, 5, out);
-    write_line(8, converted.ones, 14, out);
+    lines::write_line(4, converted.occurrences, 0, out);
+    lines::write_line(8, converted.comparisons, 5, out);
+    lines::write_line(8, converted.ones, 14, out);
     write_lines(found, 23, out);
     write_lines(frames, frames_at, out);
     answer(0, bytes as u32)

@@ -12,7 +12,8 @@ use lib.ListN.{length, getD}
 use Rattle.answers.specs.Refusals.{refuse, first-of, pattern-refusal, hold-refusal, text-refusal, buffer-refusal}
 use Rattle.hex.proofs.Pairs.{both-digits}
 use Rattle.hex.specs.Hex.{is-digit, all-digits, number}
-use Rattle.job.specs.Job.{line-end, good-line, good-lines, bytes-in, edition-in, m-in, q-in, n-in, file-length, file-refusals}
+use Rattle.job.specs.Job.{good-line, good-lines, bytes-in, edition-in, m-in, q-in, n-in, file-length, file-refusals}
+use Rattle.lines.specs.Lines.{line-end}
 use Rattle.job.specs.Read.{read-status}
 use Rattle.reader.specs.FirstLine.{First-line-outcome, First-line-read, first-line-status, first-line-fields, no-fields, fields-in}
 use Rattle.reader.specs.declared.Fields.{Fields}

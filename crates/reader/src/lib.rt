@@ -1,8 +1,8 @@
 // Reading a job file: all of it is checked before anything is written to the caller's buffers.
 use answers::Answer;
 use hex::Parsed;
-use job::LINE_END;
 use job::ReadAnswer;
+use lines::LINE_END;
 ghost use mathlib.Core.Bool.{true, _&&_};
 ghost use mathlib.Core.Path.{_≡_};
 ghost use Prim.Native.Nat.{_+_, _*_, _≤_, _<_};
@@ -11,7 +11,8 @@ ghost use lib.ListN.{length};
 ghost use Rattle.hex.specs.Hex.{is-digit, digit-value, all-digits, number};
 ghost use Rattle.hex.specs.Parsed.{Parsed-outcome};
 ghost use Rattle.answers.specs.Answers.{status-only};
-ghost use Rattle.job.specs.Job.{line-end, good-lines, bytes-in};
+ghost use Rattle.job.specs.Job.{good-lines, bytes-in};
+ghost use Rattle.lines.specs.Lines.{line-end};
 ghost use Rattle.job.specs.Read.{read-status, read-answer, Read-outcome};
 ghost use Rattle.reader.specs.FirstLine.{First-line-outcome, First-line-read};
 

@@ -71,16 +71,7 @@ pub extern "C" fn convert(
 ) -> Answer
     ensures { λ r. ⌜ Convert-outcome hold (now (pattern .entry)) (now (text .entry)) (now (order .entry)) (now (order .exit)) (now (delta2 .entry)) (now (delta2 .exit)) (now (delta1 .entry)) (now (delta1 .exit)) (now (found .entry)) (now (found .exit)) (now (frames .entry)) (now (frames .exit)) r ⌝ }
 {
-    converter::convert(
-        hold,
-        pattern,
-        text,
-        order,
-        delta2,
-        delta1,
-        found,
-        frames,
-    )
+    converter::convert(hold, pattern, text, order, delta2, delta1, found, frames)
 }
 
 // Counts the ones of a text (the holes of a chain).

@@ -5,7 +5,8 @@ use lib.Count.{ones}
 use Rattle.answers.specs.Answers.{if-done}
 use Rattle.answers.specs.Refusals.{first-of}
 use Rattle.hex.specs.Hex.{is-digit, digit-value, digit, digits, all-digits, number}
-use Rattle.job.specs.Job.{lines, first-line, job-file, edition-in, m-in, q-in, n-in, bytes-in, pattern-in, text-in, good-line, good-lines, file-refusals, file-status}
+use Rattle.lines.specs.Lines.{line, lines}
+use Rattle.job.specs.Job.{first-line, job-file, edition-in, m-in, q-in, n-in, bytes-in, pattern-in, text-in, good-line, good-lines, file-refusals, file-status}
 use Rattle.tables.specs.Least.{least-from, all-from}
 use Rattle.tables.specs.Sets.{Neg}
 use Rattle.tables.specs.Tables.{h-min, k-min, r-min, period, second-group-from, second-group, third-group-from, third-group, order, stored-order, Δ1, Δ2}
@@ -14,7 +15,6 @@ use Rattle.steps.specs.Promises.{bound}
 use Rattle.steps.specs.Steps.{agreeing, align, step, alignments-from, alignments, compared, is-occurrence, comparisons-of, listed, comparisons}
 use Rattle.frames.specs.Frames.{with-holds, frames}
 use Rattle.ones.specs.Ones.{ones-of}
-use Rattle.printer.specs.Printed.{line, four-digit-lines}
 use Rattle.report.specs.Report.{done-report, seek-report}
 use Rattle.worked_examples.specs.Examples.{bytes, Holds, examples, All, All-hold}
 
@@ -30,7 +30,7 @@ unfolding bytes Holds examples All All-hold
     least-from all-from Neg h-min k-min r-min period second-group-from second-group third-group-from third-group order stored-order Δ1 Δ2
     occurs occurrences-from all-occurrences occurrences bound
     agreeing align step alignments-from alignments compared is-occurrence comparisons-of listed comparisons
-    with-holds frames ones ones-of line four-digit-lines done-report seek-report
+    with-holds frames ones ones-of line done-report seek-report
 examples-hold =
     (refl, (refl, (refl, tt)))
     then (refl, (refl, (refl, tt)))

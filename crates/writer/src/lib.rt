@@ -5,11 +5,10 @@ ghost use Prim.Native.Nat.{_+_, _*_, _≤_};
 ghost use lib.ListN.{length, take};
 ghost use Rattle.answers.specs.Answers.{status-only};
 ghost use Rattle.answers.specs.Buffers.{in-front};
-ghost use Rattle.hex.specs.Hex.{digits};
-ghost use Rattle.job.specs.Job.{lines, first-line};
+ghost use Rattle.job.specs.Job.{first-line};
+ghost use Rattle.lines.specs.Lines.{lines};
 ghost use Rattle.job.specs.Write.{write-status, Write-outcome};
 use answers::Answer;
-use job::LINE_END;
 use job::WriteAnswer;
 
 // The status of writing, measured before anything is written.
@@ -31,37 +30,24 @@ fn write_status(m: usize, q: u32, n: usize, file: usize) -> u32
     0
 }
 
-// Writes a byte in two digits after the first entries, as many as `at` says.
-fn write_byte(byte: u8, at: usize, out: &mut [u8])
-    requires { ⌜ at + 2 ≤ length (now out) ⌝ }
-    ensures { λ r. ⌜ now (out .exit) ≡ in-front (take at (now (out .entry)) ++ digits 2 byte) (now (out .entry)) ⌝ }
-{
-    out[at] = hex::digit_of(byte / 16);
-    out[at + 1] = hex::digit_of(byte);
-}
-
 // Writes the first line of a job file.
-fn write_first_line(m: u8, q: u8, n: u16, out: &mut [u8])
+fn write_first_line(m: u32, q: u32, n: u32, out: &mut [u8])
     requires { ⌜ 11 ≤ length (now out) ⌝ }
     ensures { λ r. ⌜ now (out .exit) ≡ in-front (first-line m q n) (now (out .entry)) ⌝ }
 {
-    write_byte(1, 0, out);
-    write_byte(m, 2, out);
-    write_byte(q, 4, out);
-    write_byte((n / 256) as u8, 6, out);
-    write_byte((n % 256) as u8, 8, out);
-    out[10] = LINE_END;
+    lines::write_digits(2, 1, 0, out);
+    lines::write_digits(2, m, 2, out);
+    lines::write_digits(2, q, 4, out);
+    lines::write_line(4, n, 6, out);
 }
 
 // Writes a line for each byte after the first entries, as many as `at` says.
 fn write_lines(bytes: &[u8], at: usize, out: &mut [u8])
     requires { ⌜ at + 3 * length (now bytes) ≤ length (now out) ⌝ }
-    ensures { λ r. ⌜ now (out .exit) ≡ in-front (take at (now (out .entry)) ++ lines (now (bytes .entry))) (now (out .entry)) ⌝ }
+    ensures { λ r. ⌜ now (out .exit) ≡ in-front (take at (now (out .entry)) ++ lines 2 (now (bytes .entry))) (now (out .entry)) ⌝ }
 {
     for i in 0..bytes.len() {
-        let next = at + 3 * i;
-        write_byte(bytes[i], next, out);
-        out[next + 2] = LINE_END;
+        lines::write_line(2, bytes[i] as u32, at + 3 * i, out);
     }
 }
 
@@ -77,7 +63,7 @@ pub fn write_job(hold: u32, pattern: &[u8], text: &[u8], file: &mut [u8]) -> Wri
     }
     let text_at = 11 + 3 * m;
     let bytes = text_at + 3 * n;
-    write_first_line(m as u8, hold as u8, n as u16, file);
+    write_first_line(m as u32, hold, n as u32, file);
     write_lines(pattern, 11, file);
     write_lines(text, text_at, file);
     answer(0, bytes as u32)

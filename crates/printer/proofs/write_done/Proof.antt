@@ -5,23 +5,16 @@ use mathlib.Core.Path.{_≡_}
 use Prim.Native.Nat.{ℕ, _+_, _*_}
 use native.Mathlib.Omega.{arith}
 use borrow.Author.Needs.{needs}
-use lib.ListN.{length, take, length-append}
-use Rattle.answers.proofs.Fronts.{in-front-append}
+use lib.ListN.{length, length-append}
 use Rattle.answers.specs.Buffers.{in-front}
-use Rattle.printer.proofs.Lines.{length-line, length-four-digit-lines, length-numbers, length-report-lines}
+use Rattle.lines.proofs.Lines.{length-line, length-lines}
+use Rattle.lines.proofs.Writing.{More, more}
+use Rattle.lines.specs.Lines.{line, lines}
+use Rattle.printer.proofs.Lines.{length-numbers, length-report-lines}
 use Rattle.printer.proofs.Outcome.{too-short, written}
 use Rattle.printer.proofs.write_done.Statement.{statement}
 use Rattle.printer.proofs.write_done.Tie as tie
-use Rattle.printer.specs.Printed.{line, four-digit-lines, report-lines}
-
--- `out'` is `out` with these entries from entry n on
-abbrev More : (n : ℕ) → (entries out out' : List ℕ) → Type 0
-More n entries out out' = out' ≡ in-front (take n out ++ entries) out
-
--- entries put next to what is in front
-more : (new old out out' entries : List ℕ) (n : ℕ)
-    → length new ≡ n → out ≡ in-front new old → More n entries out out' → out' ≡ in-front (new ++ entries) old
-more new old out out' entries n l e e' = rw (e', e) (in-front-append new entries old n l)
+use Rattle.printer.specs.Printed.{report-lines}
 
 module _ (h c o : ℕ) (found frames : List ℕ) where
   abbrev numbers : List ℕ
@@ -32,17 +25,17 @@ module _ (h c o : ℕ) (found frames : List ℕ) where
       → More 0 (line 4 h) out₀ out₁
       → More 5 (line 8 c) out₁ out₂
       → More 14 (line 8 o) out₂ out₃
-      → More 23 (four-digit-lines found) out₃ out₄
-      → More (23 + 5 * length found) (four-digit-lines frames) out₄ out₅
+      → More 23 (lines 4 found) out₃ out₄
+      → More (23 + 5 * length found) (lines 4 frames) out₄ out₅
       → out₅ ≡ in-front (report-lines h c o found frames) out₀
   all-written out₀ out₁ out₂ out₃ out₄ out₅ e₁ e₂ e₃ e₄ e₅ =
       let l₁ = length-line 4 h in
       let l₂ : length (line 4 h ++ line 8 c) ≡ 14 = simp (length-append, length-line) in
-      let l₄ : length (numbers ++ four-digit-lines found) ≡ 23 + 5 * length found = rw (length-append, length-numbers, length-four-digit-lines) in
+      let l₄ : length (numbers ++ lines 4 found) ≡ 23 + 5 * length found = rw (length-append, length-numbers, length-lines) in
       let p₂ = more (line 4 h) out₀ out₁ out₂ (line 8 c) 5 l₁ e₁ e₂ in
       let p₃ = more (line 4 h ++ line 8 c) out₀ out₂ out₃ (line 8 o) 14 l₂ p₂ e₃ in
-      let p₄ = more numbers out₀ out₃ out₄ (four-digit-lines found) 23 (length-numbers h c o) p₃ e₄ in
-      more (numbers ++ four-digit-lines found) out₀ out₄ out₅ (four-digit-lines frames) (23 + 5 * length found) l₄ p₄ e₅
+      let p₄ = more numbers out₀ out₃ out₄ (lines 4 found) 23 (length-numbers h c o) p₃ e₄ in
+      more (numbers ++ lines 4 found) out₀ out₄ out₅ (lines 4 frames) (23 + 5 * length found) l₄ p₄ e₅
 
 returns : tie.Need-returns
 returns c =

@@ -5,15 +5,17 @@ use mathlib.Core.Path.{_≡_, refl, sym, _∙_}
 use Prim.Native.Nat.{ℕ, zero, suc, _+_, _*_}
 use native.Mathlib.Omega.{arith}
 use borrow.Author.Needs.{needs}
-use lib.ListN.{length, take, length-append}
-use Rattle.answers.proofs.Fronts.{in-front-append}
+use lib.ListN.{length, length-append}
 use Rattle.answers.specs.Answers.{status-only, if-done}
 use Rattle.answers.specs.Buffers.{in-front}
-use Rattle.job.proofs.Lines.{length-first-line, length-lines}
+use Rattle.job.proofs.Lengths.{length-first-line}
+use Rattle.lines.proofs.Lines.{length-lines}
+use Rattle.lines.proofs.Writing.{More, more}
+use Rattle.lines.specs.Lines.{lines}
 use Rattle.job.proofs.Taken.{Writable, writable}
 use Rattle.writer.proofs.write_job.Statement.{statement}
 use Rattle.writer.proofs.write_job.Tie as tie
-use Rattle.job.specs.Job.{first-line, lines, job-file, file-length}
+use Rattle.job.specs.Job.{first-line, job-file, file-length}
 use Rattle.job.specs.Write.{write-answer, Write-outcome-of}
 use Rattle.job.specs.declared.WriteAnswer.{WriteAnswer}
 
@@ -35,15 +37,15 @@ done q w t file file' r e f = record { answer = e; file-left = f }
 -- the three parts, one after another, are the job file
 all-written : (q : ℕ) (w t file file₁ file₂ file₃ : List ℕ)
     → file₁ ≡ in-front (first-line (length w) q (length t)) file
-    → file₂ ≡ in-front (take 11 file₁ ++ lines w) file₁
-    → file₃ ≡ in-front (take (11 + 3 * length w) file₂ ++ lines t) file₂
+    → More 11 (lines 2 w) file₁ file₂
+    → More (11 + 3 * length w) (lines 2 t) file₂ file₃
     → file₃ ≡ in-front (job-file q w t) file
 unfolding job-file
 all-written q w t file file₁ file₂ file₃ e₁ e₂ e₃ =
     let first = first-line (length w) q (length t) in
-    let l : length (first ++ lines w) ≡ 11 + 3 * length w = rw (length-append, length-first-line, length-lines) in
-    rw (e₃, e₂, e₁, in-front-append first (lines w) file 11 (length-first-line (length w) q (length t)))
-    (in-front-append (first ++ lines w) (lines t) file (11 + 3 * length w) l)
+    let l : length (first ++ lines 2 w) ≡ 11 + 3 * length w = rw (length-append, length-first-line, length-lines) in
+    let e = more first file file₁ file₂ (lines 2 w) 11 (length-first-line (length w) q (length t)) e₁ e₂ in
+    more (first ++ lines 2 w) file file₂ file₃ (lines 2 t) (11 + 3 * length w) l e e₃
 
 -- past the refusals the numbers are within their limits
 in-limits : (c : tie.Else1)
@@ -54,27 +56,6 @@ in-limits c = writable _ _ _ _ (sym (c .before .write-status .ensures) ∙ c .if
 returns : tie.Need-returns
 returns c =
     rw (← c .before .before .write-status .ensures) (refused _ _ _ _ _ _ (c .before .if1 .taken) (c .answer .ensures))
-
-mul-text-at : tie.Need-mul-text-at
-mul-text-at c = omega (arith, in-limits c)
-
-add-text-at : tie.Need-add-text-at
-add-text-at c = omega (arith, in-limits c)
-
-mul-bytes : tie.Need-mul-bytes
-mul-bytes c = omega (arith, in-limits c)
-
-add-bytes : tie.Need-add-bytes
-add-bytes c = omega (arith, in-limits c)
-
-cast-write-first-line : tie.Need-cast-write-first-line
-cast-write-first-line c = omega (arith, in-limits c)
-
-cast-write-first-line-2 : tie.Need-cast-write-first-line-2
-cast-write-first-line-2 c = omega (arith, in-limits c)
-
-cast-write-first-line-3 : tie.Need-cast-write-first-line-3
-cast-write-first-line-3 c = omega (arith, in-limits c)
 
 write-first-line-requires : tie.Need-write-first-line-requires
 write-first-line-requires c κs = omega (arith, in-limits (c .before))
@@ -104,13 +85,12 @@ write-job-spec =
     (λ c κs. search needs)
     (λ c κs. search needs)
     returns
-    mul-text-at
-    add-text-at
-    mul-bytes
-    add-bytes
-    cast-write-first-line
-    cast-write-first-line-2
-    cast-write-first-line-3
+    (λ c. omega (arith, in-limits c))
+    (λ c. omega (arith, in-limits c))
+    (λ c. omega (arith, in-limits c))
+    (λ c. omega (arith, in-limits c))
+    (λ c. omega (arith, in-limits c))
+    (λ c. omega (arith, in-limits c))
     write-first-line-requires
     write-lines-requires
     write-lines-requires-2

@@ -1,4 +1,4 @@
--- `printer::write_line` meets its contract. The loop's invariant: the digits passed, the number's last ones, stand where they belong.
+-- `lines::write_digits` meets its contract. The loop's invariant: the digits passed, the number's last ones, stand where they belong.
 -- The measure is how many digits are left. Assumes nothing.
 use mathlib.Core.List.{List, [], _∷_, _++_, append-assoc}
 use mathlib.Core.Path.{_≡_, refl}
@@ -6,15 +6,12 @@ use Prim.Native.Nat.{ℕ, suc, _+_, _-_, _/_, _%_, _^_, _≤_, _<_}
 use native.Mathlib.Omega.{arith}
 use lib.ListN.{length, take, set, length-set, length-append}
 use lib.Seq.{sets, set-comm, length-take-le}
-use Rattle.answers.proofs.Fronts.{in-front-sets, in-front-store}
-use Rattle.answers.specs.Buffers.{in-front}
+use Rattle.answers.proofs.Fronts.{in-front-sets}
 use Rattle.hex.proofs.Numbers.{length-digits}
 use Rattle.hex.specs.Hex.{digit, digits}
-use Rattle.job.specs.Job.{line-end}
-use Rattle.printer.proofs.Lines.{digit-before, places-above}
-use Rattle.printer.proofs.write_line.Statement.{statement}
-use Rattle.printer.proofs.write_line.Tie as tie
-use Rattle.printer.specs.Printed.{line}
+use Rattle.lines.proofs.Lines.{digit-before, places-above}
+use Rattle.lines.proofs.write_digits.Statement.{statement}
+use Rattle.lines.proofs.write_digits.Tie as tie
 
 abbrev Inv-loop : tie.InvT-loop
 Inv-loop count number at out₀ rest₀ left₀ out rest left =
@@ -43,23 +40,6 @@ turn o out number at left done rest d r e h q =
     let next : at + left ≡ suc (at + (left - 1)) = omega arith in
     rw (e, q, r, digit-before, next) (set-below (digits done number) o (suc (at + (left - 1))) (at + (left - 1)) _ (omega arith))
 
--- all digits, and the line end
-whole : (o out : List ℕ) (count number at : ℕ)
-    → at + count + 1 ≤ length o
-    → out ≡ sets o at (digits count number)
-    → set out (at + count) line-end ≡ in-front (take at o ++ line count number) o
-unfolding line
-whole o out count number at h e =
-    let l = length-digits count number in
-    let room : at ≤ length o = omega arith in
-    let front : length (take at o ++ digits count number) ≡ at + count = rw (length-append, length-take-le, l) in
-    rw (
-      e,
-      in-front-sets (digits count number) o at (omega arith),
-      in-front-store (take at o ++ digits count number) o (at + count) line-end front (omega arith),
-      append-assoc,
-    )
-
 loop-holds : tie.Need-loop-holds Inv-loop μ-loop
 unfolding digits
 loop-holds c = (0, omega arith, omega arith, refl, refl)
@@ -76,9 +56,6 @@ loop-again c =
       turn _ _ (args .number) (args .at) (head .loop .left) done (head .loop .rest) _ places stores (omega arith) (c .digit-of .ensures),
     )
 
-same-length : tie.Need-same-length Inv-loop μ-loop
-same-length c = simp length-set (omega arith)
-
 returns : tie.Need-returns Inv-loop μ-loop
 returns c =
     let head = c .before in
@@ -86,10 +63,10 @@ returns c =
     let (done, _, _, _, stores) = head .loop .inv in
     let all : done ≡ args .count = omega arith in
     let none : args .at + head .loop .left ≡ args .at = omega arith in
-    whole (args .out .now) (head .loop .out) (args .count) (args .number) (args .at) (omega arith) (rw (all, none) at stores)
+    rw (rw (all, none) at stores) (in-front-sets (digits (args .count) (args .number)) (args .out .now) (args .at) (rw length-digits (omega arith)))
 
-pub write-line-spec : {M : Type 1} → statement M
-write-line-spec =
+pub write-digits-spec : {M : Type 1} → statement M
+write-digits-spec =
     tie.close
     (tie.spec
     Inv-loop
@@ -103,6 +80,4 @@ write-line-spec =
     (λ c. omega arith)
     loop-again
     (λ c. omega arith)
-    (λ c. omega arith)
-    same-length
     returns)
