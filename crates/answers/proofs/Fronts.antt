@@ -1,13 +1,17 @@
 -- New entries in front of a buffer: their length, what stands there, one stored next to them, and more put after them.
 -- The seam between new and old is at the new entries' length, which an equation gives.
 use mathlib.Core.List.{List, [], _∷_, _++_, append-nil}
-use mathlib.Core.Path.{_≡_}
+use mathlib.Core.Path.{_≡_, sym}
 use Prim.Native.Nat.{ℕ, _+_, _≤_, _<_}
 use native.Mathlib.Numerals.{add-one}
 use native.Mathlib.Omega.{arith}
-use lib.ListN.{length, take, drop, set, length-append, length-drop, take-append-drop}
+use lib.ListN.{length, take, drop, set, replicate, length-append, length-drop, length-replicate, take-append-drop}
 use lib.Seq.{length-take-le, drop-cons, drop-drop, drop-append-add, drop-length, set-at, take-at, append-snoc, sets, sets-eq}
 use Rattle.answers.specs.Buffers.{in-front}
+
+-- a buffer that is an array of n zeros has n entries
+pub zeros-length : (n : ℕ) → n ≡ length {A = ℕ} (replicate n 0)
+zeros-length n = sym (length-replicate n 0)
 
 module _ {A : Type 0} where
   pub in-front-length : (new old : List A) → length new ≤ length old → length (in-front new old) ≡ length old

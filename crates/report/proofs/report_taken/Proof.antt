@@ -2,25 +2,14 @@
 -- Assumes nothing.
 use native.Mathlib.Omega.{arith}
 use borrow.Author.Needs.{needs}
+use mathlib.Core.Path.{sym}
+use lib.IntN.{pos}
+use lib.ListN.{length-replicate}
+use Rattle.answers.proofs.Fronts.{zeros-length}
 use Rattle.frames.proofs.Holds.{length-frames}
 use Rattle.report.proofs.Converted.{Converted, converted, report-of}
 use Rattle.report.proofs.report_taken.Statement.{statement}
 use Rattle.report.proofs.report_taken.Tie as tie
-
-slice-aggregate-convert : tie.Need-slice-aggregate-convert
-slice-aggregate-convert c = search needs
-
-slice-aggregate-convert-2 : tie.Need-slice-aggregate-convert-2
-slice-aggregate-convert-2 c = search needs
-
-slice-aggregate-convert-3 : tie.Need-slice-aggregate-convert-3
-slice-aggregate-convert-3 c = search needs
-
-slice-aggregate-convert-4 : tie.Need-slice-aggregate-convert-4
-slice-aggregate-convert-4 c = search needs
-
-slice-aggregate-convert-5 : tie.Need-slice-aggregate-convert-5
-slice-aggregate-convert-5 c = search needs
 
 -- what the conversion leaves
 left : (c : tie.After-convert)
@@ -29,17 +18,9 @@ left : (c : tie.After-convert)
     (args .hold) (args .pattern .now) (args .text .now)
     (c .convert .last .1 .1 .1 .1 .1 .1 .0) (c .convert .last .1 .1 .1 .1 .1 .1 .1 .0) (c .convert .result)
 left c =
-    let c₅ = c .before in
-    let c₄ = c₅ .before in
-    let c₃ = c₄ .before in
-    let c₂ = c₃ .before in
-    let c₁ = c₂ .before in
-    converted (c .convert .ensures) (omega (arith, c₁))
-    (slice-aggregate-convert c₁)
-    (slice-aggregate-convert-2 c₂)
-    (slice-aggregate-convert-3 c₃)
-    (slice-aggregate-convert-4 c₄)
-    (slice-aggregate-convert-5 c₅)
+    converted (c .convert .ensures) (omega (arith, c .before .before .before .before .before)) (sym (length-replicate 129 (pos 0))) (zeros-length 129) (zeros-length 32768)
+    (zeros-length 16384)
+    (zeros-length 16384)
 
 array-share-prefix-found : tie.Need-array-share-prefix-found
 array-share-prefix-found c = omega (arith, left (c .before .before .before .before .before .before))
@@ -71,11 +52,11 @@ pub report-taken-spec : {M : Type 1} → statement M
 report-taken-spec =
     tie.close
     (tie.spec
-    slice-aggregate-convert
-    slice-aggregate-convert-2
-    slice-aggregate-convert-3
-    slice-aggregate-convert-4
-    slice-aggregate-convert-5
+    (λ c. sym (length-replicate 129 (pos 0)))
+    (λ c. zeros-length 129)
+    (λ c. zeros-length 32768)
+    (λ c. zeros-length 16384)
+    (λ c. zeros-length 16384)
     (λ c κs. search needs)
     (λ c. search needs)
     array-share-prefix-found

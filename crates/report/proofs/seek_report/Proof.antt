@@ -3,28 +3,23 @@
 use mathlib.Core.Path.{_≡_, _∙_}
 use native.Mathlib.Omega.{arith}
 use borrow.Author.Needs.{needs}
+use Rattle.answers.proofs.Fronts.{zeros-length}
 use Rattle.report.proofs.Printed.{printed-refused, printed-done}
 use Rattle.report.proofs.Read.{Job-read, status-read, job-read}
 use Rattle.job.specs.Job.{file-status}
 use Rattle.report.proofs.seek_report.Statement.{statement}
 use Rattle.report.proofs.seek_report.Tie as tie
 
-slice-aggregate-read-job : tie.Need-slice-aggregate-read-job
-slice-aggregate-read-job c = search needs
-
-slice-aggregate-read-job-2 : tie.Need-slice-aggregate-read-job-2
-slice-aggregate-read-job-2 c = search needs
-
 -- the status of the file, and the job that was read where it is 0
 status : (c : tie.After-read-job) → c .read-job .result .answer .status ≡ file-status (c .before .before .before .before .before .args .file .now)
-status c = status-read (c .read-job .ensures) (slice-aggregate-read-job (c .before .before)) (slice-aggregate-read-job-2 (c .before))
+status c = status-read (c .read-job .ensures) (zeros-length 128) (zeros-length 16384)
 
 read : (c : tie.Else1)
     → let at = c .before .before .before in
     Job-read (at .before .before .before .before .before .args .file .now) (at .read-job .last .1 .0) (at .read-job .last .1 .1 .0) (at .read-job .result)
 read c =
     let at = c .before .before .before in
-    job-read (at .read-job .ensures) (slice-aggregate-read-job (at .before .before)) (slice-aggregate-read-job-2 (at .before)) (c .if1 .left)
+    job-read (at .read-job .ensures) (zeros-length 128) (zeros-length 16384) (c .if1 .left)
 
 returns : tie.Need-returns
 returns c =
@@ -63,8 +58,8 @@ pub seek-report-spec : {M : Type 1} → statement M
 seek-report-spec =
     tie.close
     (tie.spec
-    slice-aggregate-read-job
-    slice-aggregate-read-job-2
+    (λ c. zeros-length 128)
+    (λ c. zeros-length 16384)
     (λ c κs. search needs)
     (λ c κs. search needs)
     (λ c. search needs)
