@@ -1,13 +1,13 @@
--- A call's status is 0 just where none of its conditions holds; and what it is that none of 4, 5 and 6 holds.
+-- A call's status is 0 just where none of its conditions holds; what is left of it past 4, 5 and 6; and what it is that none of these holds.
 -- By induction on the list of conditions, whose numbers are none of them 0.
-use mathlib.Core.Bool.{Bool, true, false, cond, true≢false}
-use mathlib.Core.List.{List, [], _∷_, _++_}
-use mathlib.Core.Path.{_≡_, refl}
-use Prim.Native.Nat.{ℕ, _≤_, _<_}
+use mathlib.Core.Bool.{Bool, true, false, _||_, cond, true≢false}
+use mathlib.Core.List.{List, [], _∷_, _++_, append-nil}
+use mathlib.Core.Path.{_≡_, refl, sym, _∙_}
+use Prim.Native.Nat.{ℕ, zero, suc, _≤_, _<_}
 use native.Mathlib.Omega.{arith}
 use borrow.Author.Tests.{ltb-false, leb-false, eqb-false, le-ltb, lt-leb, ne-eqb}
-use lib.Dec.{eqb}
-use Rattle.answers.specs.Refusals.{Refusal, first-of, longest-pattern, longest-text, pattern-refusal, hold-refusal, text-refusal}
+use lib.Dec.{ltb, eqb}
+use Rattle.answers.specs.Refusals.{Refusal, first-of, longest-pattern, longest-text, pattern-refusal, hold-refusal, text-refusal, job-refusals}
 
 -- none of the conditions holds
 abbrev pub None-holds : List Refusal → Type 0
@@ -18,11 +18,6 @@ None-holds (r ∷ rs) = (r .holds ≡ false) × None-holds rs
 abbrev pub Numbered : List Refusal → Type 0
 Numbered [] = Unit {0}
 Numbered (r ∷ rs) = (0 < r .number) × Numbered rs
-
-pub none-done : (rs : List Refusal) → None-holds rs → first-of rs ≡ 0
-unfolding first-of
-none-done [] h = refl
-none-done (r ∷ rs) h = rw (h .0) (none-done rs (h .1))
 
 not-first : (holds : Bool) (number later : ℕ) → 0 < number → cond holds number later ≡ 0 → (holds ≡ false) × (later ≡ 0)
 not-first true n l h e = absurd (omega arith)
@@ -35,44 +30,38 @@ done-none (r ∷ rs) h e =
     let here = not-first (r .holds) (r .number) (first-of rs) (h .0) e in
     (here .0, done-none rs (h .1) (here .1))
 
--- the first that holds, of conditions one list after another
-past-test : (holds : Bool) (number later later' : ℕ)
-    → (cond holds number later ≡ 0 → ⊥) → ((later ≡ 0 → ⊥) → later' ≡ later) → cond holds number later' ≡ cond holds number later
-past-test true n l l' h e = refl
-past-test false n l l' h e = e h
-
-pub first-refused : (rs ss : List Refusal) → (first-of rs ≡ 0 → ⊥) → first-of (rs ++ ss) ≡ first-of rs
-unfolding first-of
-first-refused [] ss h = absurd (h refl)
-first-refused (r ∷ rs) ss h = past-test (r .holds) _ _ _ h (first-refused rs ss)
-
-pub first-past : (rs ss : List Refusal) → None-holds rs → first-of (rs ++ ss) ≡ first-of ss
+-- conditions past others, none of which holds
+first-past : (rs ss : List Refusal) → None-holds rs → first-of (rs ++ ss) ≡ first-of ss
 unfolding first-of
 first-past [] ss h = refl
 first-past (r ∷ rs) ss h = rw (h .0) (first-past rs ss (h .1))
 
--- conditions one list after another
-pub none-append : (rs ss : List Refusal) → None-holds rs → None-holds ss → None-holds (rs ++ ss)
-none-append [] ss h k = k
-none-append (r ∷ rs) ss h k = (h .0, none-append rs ss (h .1) k)
+pub none-done : (rs : List Refusal) → None-holds rs → first-of rs ≡ 0
+unfolding first-of
+none-done rs h = rw append-nil at (first-past rs [] h)
 
-pub none-left : (rs ss : List Refusal) → None-holds (rs ++ ss) → None-holds rs
-none-left [] ss h = tt
-none-left (r ∷ rs) ss h = (h .0, none-left rs ss (h .1))
+-- two lists of conditions past the same ones give the same status, where they do so when none of those holds
+same-test : (holds : Bool) (number later later' : ℕ) → (holds ≡ false → later ≡ later') → cond holds number later ≡ cond holds number later'
+same-test true n l l' h = refl
+same-test false n l l' h = h refl
 
-pub none-right : (rs ss : List Refusal) → None-holds (rs ++ ss) → None-holds ss
-none-right [] ss h = h
-none-right (r ∷ rs) ss h = none-right rs ss (h .1)
+pub same-past : (rs ss us : List Refusal) → (None-holds rs → first-of ss ≡ first-of us) → first-of (rs ++ ss) ≡ first-of (rs ++ us)
+unfolding first-of
+same-past [] ss us h = h tt
+same-past (r ∷ rs) ss us h = same-test (r .holds) _ _ _ (λ e. same-past rs ss us (λ k. h (e, k)))
+
+-- an "or" that does not hold
+pub neither : (a b : Bool) → a || b ≡ false → (a ≡ false) × (b ≡ false)
+neither true b e = absurd (true≢false e)
+neither false b e = (refl, e)
 
 -- 4 does not hold: m is from 1 to the longest
 pub pattern-within : (m : ℕ) → pattern-refusal m .holds ≡ false → (0 < m) × (m ≤ longest-pattern)
-pattern-within m e = go (eqb m 0) refl
-  where
-    go : (z : Bool) → eqb m 0 ≡ z → (0 < m) × (m ≤ longest-pattern)
-    go true q = absurd (true≢false (rw q at e))
-    go false q = (omega (arith, eqb-false m 0 q), ltb-false longest-pattern m (rw q at e))
+pattern-within m e =
+    let (some, few) = neither (eqb m 0) (ltb longest-pattern m) e in
+    (omega (arith, eqb-false m 0 some), ltb-false longest-pattern m few)
 
-pub pattern-fits : (m : ℕ) → 0 < m → m ≤ longest-pattern → pattern-refusal m .holds ≡ false
+pattern-fits : (m : ℕ) → 0 < m → m ≤ longest-pattern → pattern-refusal m .holds ≡ false
 pattern-fits m l h = rw (ne-eqb m 0 (omega arith)) (le-ltb longest-pattern m h)
 
 -- none of 4, 5 and 6 holds
@@ -82,9 +71,42 @@ pub record Within-limits (m q n : ℕ) : Type 0 where
   pub text : n ≤ longest-text
 
 module _ (m q n : ℕ) where
-  pub limits-hold : None-holds (pattern-refusal m ∷ hold-refusal m q ∷ text-refusal n ∷ []) → Within-limits m q n
-  limits-hold h =
-      record { hold = leb-false _ _ (h .1 .0); pattern = pattern-within m (h .0) .1; text = ltb-false _ _ (h .1 .1 .0) }
+  -- of a list that begins with the three, with whatever its other conditions say
+  abbrev Job-none : Type 0 → Type 0
+  Job-none Rest = (pattern-refusal m .holds ≡ false) × ((hold-refusal m q .holds ≡ false) × ((text-refusal n .holds ≡ false) × Rest))
 
-  pub limits-none : Within-limits m q n → None-holds (pattern-refusal m ∷ hold-refusal m q ∷ text-refusal n ∷ [])
-  limits-none l = (pattern-fits m (omega arith) (l .pattern), (lt-leb _ _ (l .hold), (le-ltb _ _ (l .text), tt)))
+  pub limits-hold : {Rest : Type 0} → Job-none Rest → Within-limits m q n × Rest
+  limits-hold h =
+      (record { hold = leb-false _ _ (h .1 .0); pattern = pattern-within m (h .0) .1; text = ltb-false _ _ (h .1 .1 .0) }, h .1 .1 .1)
+
+  pub limits-none : {Rest : Type 0} → Within-limits m q n → Rest → Job-none Rest
+  limits-none l rest = (pattern-fits m (omega arith) (l .pattern), (lt-leb _ _ (l .hold), (le-ltb _ _ (l .text), rest)))
+
+  -- a call that tests the three first, and finds this status
+  module _ {s : ℕ} (tested : s ≡ first-of (job-refusals m q n)) where
+    pub job-refused : (s ≡ 0 → ⊥) → (rs : List Refusal) → s ≡ first-of (job-refusals m q n ++ rs)
+    unfolding job-refusals
+    job-refused h rs =
+        tested ∙ same-past (job-refusals m q n) [] rs (λ none. absurd (h (tested ∙ none-done (job-refusals m q n) none)))
+
+    none-of-job : s ≡ 0 → None-holds (job-refusals m q n)
+    unfolding job-refusals
+    none-of-job e = done-none (job-refusals m q n) (omega arith) (sym tested ∙ e)
+
+    pub job-within : s ≡ 0 → Within-limits m q n
+    unfolding job-refusals
+    job-within e = limits-hold (none-of-job e) .0
+
+    pub job-past : s ≡ 0 → (rs : List Refusal) → first-of (job-refusals m q n ++ rs) ≡ first-of rs
+    job-past e rs = first-past (job-refusals m q n) rs (none-of-job e)
+
+-- a call that takes no hold offset gives 0, by which no pattern that is taken is refused
+pub no-hold : (m n : ℕ) (rs : List Refusal) → first-of (pattern-refusal m ∷ text-refusal n ∷ rs) ≡ first-of (job-refusals m 0 n ++ rs)
+unfolding first-of job-refusals
+no-hold zero n rs = refl
+no-hold (suc m) n rs = rw (lt-leb (suc m) 0 (omega arith))
+
+-- and one that takes no text either gives the length 0, which is never refused
+pub no-text : (m : ℕ) (rs : List Refusal) → first-of (pattern-refusal m ∷ rs) ≡ first-of (job-refusals m 0 0 ++ rs)
+unfolding first-of
+no-text m rs = no-hold m 0 rs

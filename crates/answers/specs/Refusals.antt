@@ -38,7 +38,7 @@ abbrev pub text-refusal : (n : ℕ) → Refusal
 text-refusal n = refuse 6 (ltb longest-text n)
 
 -- what whoever drew the job can cause, in its order
-abbrev pub job-refusals : (m q n : ℕ) → List Refusal
+unfoldable pub job-refusals : (m q n : ℕ) → List Refusal
 job-refusals m q n = pattern-refusal m ∷ hold-refusal m q ∷ text-refusal n ∷ []
 
 -- 7: a caller's buffer (lent buffer) has fewer entries than are needed

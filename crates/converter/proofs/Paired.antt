@@ -1,26 +1,24 @@
 -- Demand 3 of whole calls: every search that is taken is exact (`Every-search-exact`), and two that meet the same bytes are alike (`Paired`).
 -- A call that answers status 0 has status 0, and then its outcome says what it answers and leaves; the steps do the rest.
 use mathlib.Core.Bool.{Bool}
-use mathlib.Core.List.{List, [], _∷_, _++_, map}
+use mathlib.Core.List.{List, [], _∷_, map}
 use mathlib.Core.Path.{_≡_, refl, sym, _∙_, ap}
 use Prim.Native.Nat.{ℕ, zero, suc, _+_, _≤_, _<_}
 use native.Mathlib.Omega.{arith}
 use lib.Dec.{eqb}
 use lib.ListN.{length, getD}
 use Rattle.answers.proofs.Fronts.{in-front-take}
-use Rattle.answers.proofs.Refusals.{done-none, pattern-within}
 use Rattle.answers.specs.Answers.{status-only, if-done}
 use Rattle.answers.specs.Buffers.{in-front}
-use Rattle.answers.specs.Refusals.{pattern-refusal, text-refusal, buffer-refusal}
 use Rattle.answers.specs.declared.Answer.{Answer}
-use Rattle.tables.specs.Prepare.{table-refusals}
 use Rattle.tables.specs.Sets.{byte}
 use Rattle.tables.specs.Tables.{period}
 use Rattle.steps.proofs.Bound.{few-comparisons}
 use Rattle.steps.proofs.Decide.{same-texts}
 use Rattle.steps.specs.Occurrences.{occurrences}
 use Rattle.steps.specs.Promises.{Few-comparisons, bound}
-use Rattle.matcher.specs.Search.{search-status, search-answer, found-left}
+use Rattle.matcher.proofs.Searched.{Search-fit, search-fit}
+use Rattle.matcher.specs.Search.{search-answer, found-left}
 use Rattle.steps.specs.Steps.{comparisons}
 use Rattle.frames.proofs.Ascending.{passing}
 use Rattle.frames.proofs.Holds.{length-frames, holds-of, holds-listed}
@@ -44,12 +42,6 @@ done-only : (s : ℕ) (a r : Answer) → r ≡ if-done s a (status-only s) → r
 unfolding if-done
 done-only zero a r h e = refl
 done-only (suc s) a r h e = absurd (omega (arith, ap (λ (x : Answer). x .status) h))
-
-search-nonempty : (m n order delta2 delta1 found : ℕ) → search-status m n order delta2 delta1 found ≡ 0 → 1 ≤ m
-unfolding search-status table-refusals
-search-nonempty m n o d2 d1 e h =
-    let (pattern, rest) = done-none (pattern-refusal m ∷ text-refusal n ∷ table-refusals m o d2 d1 ++ (buffer-refusal e n ∷ [])) (omega arith) h in
-    pattern-within m pattern .0
 
 -- what a search that is taken gives
 record Worked (w t : List ℕ) (c : Call) : Type 0 where
@@ -80,7 +72,10 @@ module _ {w t : List ℕ} {c : Call} where
 
   search-worked : {q : ℕ} → Search q w t c → Taken c → Worked w t c
   unfolding search-answer convert-answer
-  search-worked (by-search h) e = worked _ 0 (search-nonempty _ _ _ _ _ _) (h .answer) (h .occurrences-left) e
+  search-worked (by-search h) e =
+      let b = c .lent in
+      let fit : _ → Search-fit w t (b .order) (b .delta2) (b .delta1) (b .found) = search-fit in
+      worked _ 0 (λ done. fit done .tables .taken .some) (h .answer) (h .occurrences-left) e
   search-worked (by-convert h) e =
       worked _ (ones-of t) (λ done. omega (arith, taken _ _ _ _ _ _ _ _ done .limits .hold)) (h .answer) (h .occurrences-left) e
 

@@ -6,9 +6,9 @@ use lib.IntN.{ℤ}
 use lib.ListN.{length}
 use Rattle.answers.specs.Answers.{status-only, if-done}
 use Rattle.answers.specs.Buffers.{in-front}
-use Rattle.answers.specs.Refusals.{first-of, pattern-refusal, hold-refusal, text-refusal, buffer-refusal}
+use Rattle.answers.specs.Refusals.{first-of, job-refusals, buffer-refusal}
 use Rattle.answers.specs.declared.Answer.{Answer}
-use Rattle.tables.specs.Prepare.{table-refusals, Tables-left}
+use Rattle.tables.specs.Prepare.{table-refusal, Tables-left}
 use Rattle.steps.specs.Occurrences.{occurrences}
 use Rattle.matcher.specs.Search.{found-left}
 use Rattle.steps.specs.Steps.{comparisons}
@@ -18,12 +18,7 @@ use Rattle.ones.specs.Ones.{ones-of}
 -- the status of converting: 4, 5, 6, 7; n entries each are needed for finds and frames
 unfoldable pub convert-status : (m q n : ℕ) → (order delta2 delta1 found frames : ℕ) → ℕ
 convert-status m q n o d2 d1 e g =
-    first-of
-    (pattern-refusal m
-    ∷ hold-refusal m q
-    ∷ text-refusal n
-    ∷ table-refusals m o d2 d1
-    ++ (buffer-refusal e n ∷ buffer-refusal g n ∷ []))
+    first-of (job-refusals m q n ++ (table-refusal m o d2 d1 ∷ buffer-refusal e n ∷ buffer-refusal g n ∷ []))
 
 -- converting works out h, C and the holes
 unfoldable pub convert-answer : (status : ℕ) → (w t : List ℕ) → Answer

@@ -1,28 +1,7 @@
 // Conversion to frames: the search, then the moves and the holds.
-ghost use mathlib.Core.Bool.{cond};
-ghost use mathlib.Core.List.{[], _∷_, _++_};
 ghost use mathlib.Core.Path.{_≡_};
-ghost use Prim.Native.Nat.{_≤_};
-ghost use Rattle.answers.specs.Refusals.{first-of, buffer-refusal};
-ghost use Rattle.tables.specs.Prepare.{table-refusals};
 ghost use Rattle.converter.specs.Convert.{convert-status, Convert-outcome};
 use answers::Answer;
-
-// Whether a caller's buffer has fewer entries than are needed, n each for occurrences (finds) and frames.
-fn too_short(
-    m: usize,
-    n: usize,
-    order: usize,
-    delta2: usize,
-    delta1: usize,
-    found: usize,
-    frames: usize,
-) -> bool
-    requires { ⌜ m ≤ 128 ⌝ }
-    ensures { λ r. ⌜ first-of (table-refusals m order delta2 delta1 ++ (buffer-refusal found n ∷ buffer-refusal frames n ∷ [])) ≡ cond r 7 0 ⌝ }
-{
-    order < m + 1 || delta2 < m + 1 || delta1 < 256 * m || found < n || frames < n
-}
 
 // The status of converting, measured before anything is written.
 fn convert_status(
@@ -37,16 +16,11 @@ fn convert_status(
 ) -> u32
     ensures { λ r. ⌜ r ≡ convert-status m q n order delta2 delta1 found frames ⌝ }
 {
-    if m == 0 || 128 < m {
-        return 4;
+    let status = answers::job_status(m, q as usize, n);
+    if status != 0 {
+        return status;
     }
-    if m <= q as usize {
-        return 5;
-    }
-    if 16384 < n {
-        return 6;
-    }
-    if too_short(m, n, order, delta2, delta1, found, frames) {
+    if tables::too_short(m, order, delta2, delta1) || found < n || frames < n {
         return 7;
     }
     0

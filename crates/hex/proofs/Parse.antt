@@ -18,15 +18,20 @@ pub taken : (good : Bool) (value v : ℕ) → good ≡ true → value ≡ v → 
 unfolding parsed-status parsed-value
 taken good value v e q = record { status = rw e; result = rw (e, q) }
 
+-- the number, 0 or 2, tells good from bad
+pub told-good : (good : Bool) → _≡_ {A = ℕ} 0 (cond good 0 2) → good ≡ true
+told-good true e = refl
+told-good false e = absurd (eqb-false 0 2 refl e)
+
+pub told-bad : (good : Bool) → _≡_ {A = ℕ} 2 (cond good 0 2) → good ≡ false
+told-bad true e = absurd (eqb-false 2 0 refl e)
+told-bad false e = refl
+
 -- what a case that was come to by a match says
 module _ (good : Bool) (value : ℕ) (r : Parsed) (o : Parsed-outcome good value r) where
   pub value-good : (v : ℕ) → r ≡ Value v → good ≡ true
   unfolding parsed-status
-  value-good v e = go good (sym (ap parsed-status e) ∙ o .status)
-    where
-      go : (b : Bool) → _≡_ {A = ℕ} 0 (cond b 0 2) → b ≡ true
-      go true q = refl
-      go false q = absurd (eqb-false 0 2 refl q)
+  value-good v e = told-good good (sym (ap parsed-status e) ∙ o .status)
 
   pub value-is : (v : ℕ) → r ≡ Value v → v ≡ value
   unfolding parsed-value
@@ -34,11 +39,7 @@ module _ (good : Bool) (value : ℕ) (r : Parsed) (o : Parsed-outcome good value
 
   pub refused-bad : r ≡ Refused → good ≡ false
   unfolding parsed-status
-  refused-bad e = go good (sym (ap parsed-status e) ∙ o .status)
-    where
-      go : (b : Bool) → _≡_ {A = ℕ} 2 (cond b 0 2) → b ≡ false
-      go true q = absurd (eqb-false 2 0 refl q)
-      go false q = refl
+  refused-bad e = told-bad good (sym (ap parsed-status e) ∙ o .status)
 
 -- a digit that was read is below 16
 pub digit-below : (b : ℕ) (r : Parsed) → Parsed-outcome (is-digit b) (digit-value b) r → (v : ℕ) → r ≡ Value v → v < 16

@@ -27,7 +27,7 @@ unfolding all-digits
 ten-digits bs = simp and-assoc
 
 -- so many lines, in two parts
-good-lines-split : (m n a : ℕ) (bs : List ℕ) → good-lines (m + n) a bs ≡ good-lines m a bs && good-lines n (a + 3 * m) bs
+pub good-lines-split : (m n a : ℕ) (bs : List ℕ) → good-lines (m + n) a bs ≡ good-lines m a bs && good-lines n (a + 3 * m) bs
 unfolding good-lines
 good-lines-split zero n a bs = rw (zero-add, add-zero)
 good-lines-split (suc m) n a bs =

@@ -7,8 +7,8 @@ use Prim.Native.Nat.{ℕ, _+_, _≤_}
 use native.Mathlib.Omega.{arith}
 use borrow.Author.Tests.{ltb-false, eqb-true, not-false, le-ltb, eq-eqb}
 use lib.ListN.{length}
-use Rattle.answers.proofs.Refusals.{None-holds, none-done, done-none, none-append, none-left, none-right, Within-limits, limits-hold, limits-none}
-use Rattle.answers.specs.Refusals.{Refusal, pattern-refusal, hold-refusal, text-refusal, buffer-refusal}
+use Rattle.answers.proofs.Refusals.{None-holds, none-done, done-none, Within-limits, limits-hold, limits-none}
+use Rattle.answers.specs.Refusals.{Refusal, job-refusals, buffer-refusal}
 use Rattle.job.specs.Job.{file-length, edition-in, m-in, q-in, n-in, good-line, good-lines, file-refusals, file-status}
 use Rattle.job.specs.Read.{read-status}
 use Rattle.job.specs.Write.{write-status}
@@ -22,48 +22,44 @@ pub record Taken (file : List ℕ) : Type 0 where
   pub size : length file ≡ file-length (m-in file) (n-in file)
   pub rest : good-lines (m-in file + n-in file) 11 file ≡ true
 
-module _ (file : List ℕ) where
-  facts : None-holds (file-refusals file) → Taken file
-  unfolding file-refusals
+-- with whatever conditions stand past the file's own
+module _ (file : List ℕ) (rs : List Refusal) where
+  facts : None-holds (file-refusals file ++ rs) → Taken file × None-holds rs
+  unfolding file-refusals job-refusals
   facts h =
-      let (long, h₁) = h in
-      let (first, h₂) = h₁ in
-      let (edition, h₃) = h₂ in
-      let (pattern, h₄) = h₃ in
-      let (hold, h₅) = h₄ in
-      let (text, h₆) = h₅ in
-      let (size, h₇) = h₆ in
-      record {
-        long = ltb-false _ _ long;
-        first = not-false _ first;
-        edition = eqb-true _ _ (not-false _ edition);
-        limits = limits-hold (m-in file) (q-in file) (n-in file) (pattern, (hold, (text, tt)));
-        size = eqb-true _ _ (not-false _ size);
-        rest = not-false _ (h₇ .0);
-      }
-
-  none : Taken file → None-holds (file-refusals file)
-  unfolding file-refusals
-  none t =
-      let (pattern, l₁) = limits-none (m-in file) (q-in file) (n-in file) (t .limits) in
-      let (hold, l₂) = l₁ in (
-        le-ltb _ _ (t .long),
-        (
-          ap not (t .first),
-          (
-            ap not (eq-eqb _ _ (t .edition)),
-            (pattern, (hold, (l₂ .0, (ap not (eq-eqb _ _ (t .size)), (ap not (t .rest), tt))))),
-          ),
-        ),
+      let (limits, sizes) = limits-hold (m-in file) (q-in file) (n-in file) (h .1 .1 .1) in (
+        record {
+          long = ltb-false _ _ (h .0);
+          first = not-false _ (h .1 .0);
+          edition = eqb-true _ _ (not-false _ (h .1 .1 .0));
+          limits = limits;
+          size = eqb-true _ _ (not-false _ (sizes .0));
+          rest = not-false _ (sizes .1 .0);
+        },
+        sizes .1 .1,
       )
 
+  none : Taken file → None-holds rs → None-holds (file-refusals file ++ rs)
+  unfolding file-refusals job-refusals
+  none t later = (
+    le-ltb _ _ (t .long),
+    (
+      ap not (t .first),
+      (
+        ap not (eq-eqb _ _ (t .edition)),
+        limits-none (m-in file) (q-in file) (n-in file) (t .limits) (ap not (eq-eqb _ _ (t .size)), (ap not (t .rest), later)),
+      ),
+    ),
+  )
+
+module _ (file : List ℕ) where
   pub taken : file-status file ≡ 0 → Taken file
-  unfolding file-status file-refusals
-  taken e = facts (done-none (file-refusals file) (omega arith) e)
+  unfolding file-status file-refusals job-refusals
+  taken e = facts file [] (done-none (file-refusals file) (omega arith) e) .0
 
   pub taken-done : Taken file → file-status file ≡ 0
-  unfolding file-status
-  taken-done t = none-done (file-refusals file) (none t)
+  unfolding file-status file-refusals job-refusals
+  taken-done t = none-done (file-refusals file) (none file [] t tt)
 
 -- a file is read: it is taken, and the buffers have room
 pub record Readable (file : List ℕ) (pattern text : ℕ) : Type 0 where
@@ -76,26 +72,17 @@ module _ (file : List ℕ) (pattern text : ℕ) where
   rooms = buffer-refusal pattern (m-in file) ∷ buffer-refusal text (n-in file) ∷ []
 
   pub readable : read-status file pattern text ≡ 0 → Readable file pattern text
-  unfolding read-status file-refusals
+  unfolding read-status file-refusals job-refusals
   readable e =
-      let h = done-none (file-refusals file ++ rooms) (omega arith) e in
-      let (p, k) = none-right (file-refusals file) rooms h in
-      record {
-        file-taken = facts file (none-left (file-refusals file) rooms h);
-        pattern-room = ltb-false _ _ p;
-        text-room = ltb-false _ _ (k .0);
-      }
+      let (file-taken, room) = facts file rooms (done-none (file-refusals file ++ rooms) (omega arith) e) in
+      record { file-taken = file-taken; pattern-room = ltb-false _ _ (room .0); text-room = ltb-false _ _ (room .1 .0) }
 
   pub readable-done : Readable file pattern text → read-status file pattern text ≡ 0
   unfolding read-status
   readable-done r =
       none-done
       (file-refusals file ++ rooms)
-      (none-append
-      (file-refusals file)
-      rooms
-      (none file (r .file-taken))
-      (le-ltb _ _ (r .pattern-room), (le-ltb _ _ (r .text-room), tt)))
+      (none file rooms (r .file-taken) (le-ltb _ _ (r .pattern-room), (le-ltb _ _ (r .text-room), tt)))
 
 -- a job is written: it is within the limits, and the buffer has room
 pub record Writable (m q n file : ℕ) : Type 0 where
@@ -104,19 +91,14 @@ pub record Writable (m q n file : ℕ) : Type 0 where
 
 module _ (m q n file : ℕ) where
   abbrev write-refusals : List Refusal
-  write-refusals = pattern-refusal m ∷ hold-refusal m q ∷ text-refusal n ∷ buffer-refusal file (file-length m n) ∷ []
+  write-refusals = job-refusals m q n ++ (buffer-refusal file (file-length m n) ∷ [])
 
   pub writable : write-status m q n file ≡ 0 → Writable m q n file
-  unfolding write-status
+  unfolding write-status job-refusals
   writable e =
-      let (pattern, h₁) = done-none write-refusals (omega arith) e in
-      let (hold, h₂) = h₁ in
-      let (text, h₃) = h₂ in
-      record { limits = limits-hold m q n (pattern, (hold, (text, tt))); file-room = ltb-false _ _ (h₃ .0) }
+      let (limits, room) = limits-hold m q n (done-none write-refusals (omega arith) e) in
+      record { limits = limits; file-room = ltb-false _ _ (room .0) }
 
   pub writable-done : Writable m q n file → write-status m q n file ≡ 0
-  unfolding write-status
-  writable-done w =
-      let (pattern, l₁) = limits-none m q n (w .limits) in
-      let (hold, l₂) = l₁ in
-      none-done write-refusals (pattern, (hold, (l₂ .0, (le-ltb _ _ (w .file-room), tt))))
+  unfolding write-status job-refusals
+  writable-done w = none-done write-refusals (limits-none m q n (w .limits) (le-ltb _ _ (w .file-room), tt))

@@ -4,7 +4,7 @@ use mathlib.Core.List.{List, [], _∷_, _++_}
 use Prim.Native.Nat.{ℕ, zero, suc, _+_, _*_}
 use lib.Dec.{ltb, eqb}
 use lib.ListN.{length, getD}
-use Rattle.answers.specs.Refusals.{Refusal, refuse, first-of, pattern-refusal, hold-refusal, text-refusal}
+use Rattle.answers.specs.Refusals.{Refusal, refuse, first-of, job-refusals}
 use Rattle.hex.specs.Hex.{digits, all-digits, number}
 use Rattle.lines.specs.Lines.{line-end, line, lines}
 
@@ -60,12 +60,8 @@ file-refusals bs =
     refuse 1 (ltb (length bs) 11)
     ∷ refuse 2 (not (good-line 10 0 bs))
     ∷ refuse 3 (not (eqb (edition-in bs) 1))
-    ∷ pattern-refusal (m-in bs)
-    ∷ hold-refusal (m-in bs) (q-in bs)
-    ∷ text-refusal (n-in bs)
-    ∷ refuse 1 (not (eqb (length bs) (file-length (m-in bs) (n-in bs))))
-    ∷ refuse 2 (not (good-lines (m-in bs + n-in bs) 11 bs))
-    ∷ []
+    ∷ job-refusals (m-in bs) (q-in bs) (n-in bs)
+    ++ (refuse 1 (not (eqb (length bs) (file-length (m-in bs) (n-in bs)))) ∷ refuse 2 (not (good-lines (m-in bs + n-in bs) 11 bs)) ∷ [])
 
 -- the number that a file is turned away by, where buffers are long enough; 0 where it is taken
 unfoldable pub file-status : (file : List ℕ) → ℕ

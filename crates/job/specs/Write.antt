@@ -1,18 +1,17 @@
 -- What writing a job answers and leaves in its buffer. These are definitions.
-use mathlib.Core.List.{List, [], _∷_}
+use mathlib.Core.List.{List, [], _∷_, _++_}
 use mathlib.Core.Path.{_≡_}
 use Prim.Native.Nat.{ℕ}
 use lib.ListN.{length}
 use Rattle.answers.specs.Answers.{status-only, if-done}
 use Rattle.answers.specs.Buffers.{in-front}
-use Rattle.answers.specs.Refusals.{first-of, pattern-refusal, hold-refusal, text-refusal, buffer-refusal}
+use Rattle.answers.specs.Refusals.{first-of, job-refusals, buffer-refusal}
 use Rattle.job.specs.Job.{job-file, file-length}
 use Rattle.job.specs.declared.WriteAnswer.{WriteAnswer}
 
 -- the status of writing: 4, 5, 6, 7; needed is the file's length
 unfoldable pub write-status : (m q n : ℕ) → (file : ℕ) → ℕ
-write-status m q n f =
-    first-of (pattern-refusal m ∷ hold-refusal m q ∷ text-refusal n ∷ buffer-refusal f (file-length m n) ∷ [])
+write-status m q n f = first-of (job-refusals m q n ++ (buffer-refusal f (file-length m n) ∷ []))
 
 -- writing works out none of finds, looks and holes; it also answers the file's length
 unfoldable pub write-answer : (status : ℕ) → (m n : ℕ) → WriteAnswer

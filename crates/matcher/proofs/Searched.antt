@@ -1,6 +1,6 @@
 -- What searching answers and leaves, put together from what its parts do: what it is that a search is taken, refused, and done.
 -- A search is taken where none of its conditions holds; the tables stand in front of their buffers once they are written.
-use mathlib.Core.List.{List, [], _∷_, _++_}
+use mathlib.Core.List.{List, [], _∷_}
 use mathlib.Core.Path.{_≡_, refl}
 use Prim.Native.Nat.{ℕ, zero, suc, _≤_}
 use native.Mathlib.Omega.{arith}
@@ -8,13 +8,12 @@ use borrow.Author.Tests.{ltb-false}
 use lib.IntN.{ℤ}
 use lib.ListN.{length}
 use Rattle.answers.proofs.Fronts.{in-front-take}
-use Rattle.answers.proofs.Refusals.{done-none, none-left, none-right}
+use Rattle.answers.proofs.Refusals.{done-none}
 use Rattle.answers.specs.Answers.{status-only, if-done}
 use Rattle.answers.specs.Refusals.{longest-text, pattern-refusal, text-refusal, buffer-refusal}
 use Rattle.prepare.proofs.Fit.{tables-fit}
-use Rattle.tables.specs.Prepare.{table-refusals, Tables-left}
+use Rattle.tables.specs.Prepare.{table-refusal, Tables-left, Tables-fit}
 use Rattle.tables.specs.Tables.{stored-order, Δ2, stored-Δ1}
-use Rattle.tables.specs.Prepare.{Tables-fit}
 use Rattle.steps.specs.Run.{Run-ready, Run-outcome}
 use Rattle.matcher.specs.Search.{search-status, search-answer, found-left, Search-outcome-of}
 use Rattle.steps.specs.declared.Counts.{Counts}
@@ -29,16 +28,15 @@ pub search-fit :
     {w t : List ℕ} {order : List ℤ} {delta2 delta1 found : List ℕ} →
     search-status (length w) (length t) (length order) (length delta2) (length delta1) (length found) ≡ 0 →
     Search-fit w t order delta2 delta1 found
-unfolding search-status table-refusals
+unfolding search-status
 search-fit {w} {t} {order} {delta2} {delta1} {found} status =
-    let tables = table-refusals (length w) (length order) (length delta2) (length delta1) in
-    let last = buffer-refusal (length found) (length t) ∷ [] in
-    let (pattern, h₁) = done-none (pattern-refusal (length w) ∷ text-refusal (length t) ∷ tables ++ last) (omega arith) status in
-    let (text, h₂) = h₁ in
+    let tables = table-refusal (length w) (length order) (length delta2) (length delta1) in
+    let room = buffer-refusal (length found) (length t) in
+    let (pattern, later) = done-none (pattern-refusal (length w) ∷ text-refusal (length t) ∷ tables ∷ room ∷ []) (omega arith) status in
     record {
-      tables = tables-fit w order delta2 delta1 pattern (none-left tables last h₂);
-      text = ltb-false _ _ text;
-      room = ltb-false _ _ (none-right tables last h₂ .0);
+      tables = tables-fit w order delta2 delta1 pattern (later .1 .0);
+      text = ltb-false _ _ (later .0);
+      room = ltb-false _ _ (later .1 .1 .0);
     }
 
 module _ {w t : List ℕ} {order : List ℤ} {delta2 delta1 found : List ℕ} where

@@ -1,5 +1,5 @@
 -- What searching answers and leaves in its buffers (document 01, "Turned away, by who can cause it"). These are definitions.
-use mathlib.Core.List.{List, [], _∷_, _++_}
+use mathlib.Core.List.{List, [], _∷_}
 use mathlib.Core.Path.{_≡_}
 use Prim.Native.Nat.{ℕ}
 use lib.IntN.{ℤ}
@@ -8,14 +8,14 @@ use Rattle.answers.specs.Answers.{status-only, if-done}
 use Rattle.answers.specs.Buffers.{in-front}
 use Rattle.answers.specs.Refusals.{first-of, pattern-refusal, text-refusal, buffer-refusal}
 use Rattle.answers.specs.declared.Answer.{Answer}
-use Rattle.tables.specs.Prepare.{table-refusals, Tables-left}
+use Rattle.tables.specs.Prepare.{table-refusal, Tables-left}
 use Rattle.steps.specs.Occurrences.{occurrences}
 use Rattle.steps.specs.Steps.{comparisons}
 
 -- the status of searching: 4, 6, 7; n entries are needed for finds
 unfoldable pub search-status : (m n : ℕ) → (order delta2 delta1 found : ℕ) → ℕ
 search-status m n o d2 d1 e =
-    first-of (pattern-refusal m ∷ text-refusal n ∷ table-refusals m o d2 d1 ++ (buffer-refusal e n ∷ []))
+    first-of (pattern-refusal m ∷ text-refusal n ∷ table-refusal m o d2 d1 ∷ buffer-refusal e n ∷ [])
 
 -- searching works out h and C, and no holes
 unfoldable pub search-answer : (status : ℕ) → (w t : List ℕ) → Answer

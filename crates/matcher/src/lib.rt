@@ -14,13 +14,11 @@ fn search_status(
 ) -> u32
     ensures { λ r. ⌜ r ≡ search-status m n order delta2 delta1 found ⌝ }
 {
-    if m == 0 || 128 < m {
-        return 4;
+    let status = answers::job_status(m, 0, n);
+    if status != 0 {
+        return status;
     }
-    if 16384 < n {
-        return 6;
-    }
-    if order < m + 1 || delta2 < m + 1 || delta1 < 256 * m || found < n {
+    if tables::too_short(m, order, delta2, delta1) || found < n {
         return 7;
     }
     0
@@ -47,12 +45,7 @@ pub fn search(
         found.len(),
     );
     if status != 0 {
-        return Answer {
-            status,
-            occurrences: 0,
-            comparisons: 0,
-            ones: 0,
-        };
+        return answers::status_only(status);
     }
     prepare::write_tables(pattern, order, delta2, delta1);
     let counts = steps::run_steps(pattern, text, order, delta2, delta1, found);

@@ -7,10 +7,11 @@ use answers::Answer;
 fn prepare_status(m: usize, order: usize, delta2: usize, delta1: usize) -> u32
     ensures { λ r. ⌜ r ≡ prepare-status m order delta2 delta1 ⌝ }
 {
-    if m == 0 || 128 < m {
-        return 4;
+    let status = answers::job_status(m, 0, 0);
+    if status != 0 {
+        return status;
     }
-    if order < m + 1 || delta2 < m + 1 || delta1 < 256 * m {
+    if tables::too_short(m, order, delta2, delta1) {
         return 7;
     }
     0
@@ -30,13 +31,9 @@ pub fn prepare(pattern: &[u8], order: &mut [i16], delta2: &mut [u16], delta1: &m
     ensures { λ r. ⌜ Prepare-outcome (now (pattern .entry)) (now (order .entry)) (now (order .exit)) (now (delta2 .entry)) (now (delta2 .exit)) (now (delta1 .entry)) (now (delta1 .exit)) r ⌝ }
 {
     let status = prepare_status(pattern.len(), order.len(), delta2.len(), delta1.len());
-    if status == 0 {
-        write_tables(pattern, order, delta2, delta1);
+    if status != 0 {
+        return answers::status_only(status);
     }
-    Answer {
-        status,
-        occurrences: 0,
-        comparisons: 0,
-        ones: 0,
-    }
+    write_tables(pattern, order, delta2, delta1);
+    answers::status_only(0)
 }

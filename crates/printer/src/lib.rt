@@ -32,12 +32,7 @@ fn answer(status: u32, bytes: u32) -> ReportAnswer
     ensures { λ r. ⌜ r ≡ record { answer = status-only status; bytes = bytes } ⌝ }
 {
     ReportAnswer {
-        answer: Answer {
-            status,
-            occurrences: 0,
-            comparisons: 0,
-            ones: 0,
-        },
+        answer: answers::status_only(status),
         bytes,
     }
 }

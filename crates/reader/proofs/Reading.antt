@@ -1,17 +1,23 @@
--- What a first line, a line of two digits and a run of such lines are made of, and what the cases of `FirstLine` say.
+-- What a first line, a line of two digits and a run of such lines are made of, what the cases of `FirstLine` say, and the status by a first line's fields.
 -- By unfolding the definitions at their digits, and by induction on the number of lines.
-use mathlib.Core.Bool.{Bool, true, false, _&&_, not, cond, and-assoc, and-eq-true-iff}
+use mathlib.Core.Bool.{Bool, true, false, _&&_, not, cond, and-assoc, and-true, and-false}
 use mathlib.Core.List.{List, [], _∷_, _++_}
-use mathlib.Core.Path.{_≡_, refl, sym, ap, _∙_}
-use Prim.Native.Nat.{ℕ, zero, suc, _+_, _*_, _-_, _<_}
-use native.Mathlib.Nat.{zero-add, suc-add}
+use mathlib.Core.Path.{_≡_, sym, ap, _∙_}
+use Prim.Native.Nat.{ℕ, zero, suc, _+_, _*_, _-_, _≤_, _<_}
+use native.Mathlib.Nat.{zero-add, add-zero}
 use native.Mathlib.Omega.{arith}
-use borrow.Author.Tests.{eqb-false, le-ltb}
+use borrow.Author.Tests.{le-ltb, eq-eqb, ne-eqb}
 use lib.Dec.{eqb}
 use lib.ListN.{length, getD}
-use Rattle.answers.specs.Refusals.{refuse, first-of, pattern-refusal, hold-refusal, text-refusal, buffer-refusal}
+use Rattle.answers.specs.Refusals.{Refusal, refuse, first-of, job-refusals, buffer-refusal}
 use Rattle.hex.proofs.Pairs.{both-digits}
+use Rattle.hex.proofs.Parse.{told-good, told-bad, refused-bad, value-good, value-is}
+use Rattle.hex.proofs.Table.{and-left, and-right}
 use Rattle.hex.specs.Hex.{is-digit, all-digits, number}
+use Rattle.hex.specs.Parsed.{Parsed-outcome}
+use Rattle.hex.specs.declared.Parsed.{Parsed}
+use Rattle.hex.specs.declared.Parsed.the-variants as parsed
+use Rattle.job.proofs.RoundTrip.{good-lines-split}
 use Rattle.job.specs.Job.{good-line, good-lines, bytes-in, edition-in, m-in, q-in, n-in, file-length, file-refusals}
 use Rattle.lines.specs.Lines.{line-end}
 use Rattle.job.specs.Read.{read-status}
@@ -49,15 +55,30 @@ pub first-good : (bs : List ℕ) (fields : Fields) → good-line 10 0 bs ≡ tru
 unfolding first-line-status first-line-fields
 first-good bs f e q = record { status = rw e; fields = rw e q }
 
+-- of a run of digits, two that are not digits leave none
+bad-digits : (n k a : ℕ) (bs : List ℕ) → k + 2 ≤ n → all-digits 2 (a + k) bs ≡ false → all-digits n a bs ≡ false
+unfolding all-digits
+bad-digits zero k a bs h e = absurd (omega arith)
+bad-digits (suc zero) k a bs h e = absurd (omega arith)
+bad-digits (suc (suc n)) zero a bs h e = rw (← and-assoc, rw (add-zero, and-true) at e)
+bad-digits (suc (suc n)) (suc k) a bs h e =
+    let there : a + suc k ≡ suc a + k = omega arith in
+    rw (bad-digits (suc n) k (suc a) bs (omega arith) (rw there at e), and-false)
+
+-- a pair of the first line as it was read: refused, or good with its number
+module _ (bs : List ℕ) (at : ℕ) (r : Parsed) (o : Parsed-outcome (all-digits 2 at bs) (number 2 at bs) r) where
+  pub pair-refused : at ≤ 8 → r ≡ parsed.Refused → First-line-outcome bs Refused
+  unfolding good-line
+  pair-refused h e = first-refused bs (rw (bad-digits 10 at 0 bs (omega arith) (rw zero-add (refused-bad _ _ r o e))))
+
+  pub pair-read : (v : ℕ) → r ≡ parsed.Value v → (all-digits 2 at bs ≡ true) × (v ≡ number 2 at bs)
+  pair-read v e = (value-good _ _ r o v e, value-is _ _ r o v e)
+
 -- what a case that was come to by a match says
 module _ (bs : List ℕ) (r : FirstLine) (o : First-line-outcome bs r) where
   pub good-is : (fields : Fields) → r ≡ Good fields → good-line 10 0 bs ≡ true
   unfolding first-line-status
-  good-is fields e = go (good-line 10 0 bs) (sym (ap first-line-status e) ∙ o .status)
-    where
-      go : (b : Bool) → _≡_ {A = ℕ} 0 (cond b 0 2) → b ≡ true
-      go true q = refl
-      go false q = absurd (eqb-false 0 2 refl q)
+  good-is fields e = told-good (good-line 10 0 bs) (sym (ap first-line-status e) ∙ o .status)
 
   pub good-fields : (fields : Fields) → r ≡ Good fields → fields ≡ fields-in bs
   unfolding first-line-fields
@@ -66,11 +87,7 @@ module _ (bs : List ℕ) (r : FirstLine) (o : First-line-outcome bs r) where
 
   pub refused-is : r ≡ Refused → good-line 10 0 bs ≡ false
   unfolding first-line-status
-  refused-is e = go (good-line 10 0 bs) (sym (ap first-line-status e) ∙ o .status)
-    where
-      go : (b : Bool) → _≡_ {A = ℕ} 2 (cond b 0 2) → b ≡ false
-      go true q = absurd (eqb-false 2 0 refl q)
-      go false q = refl
+  refused-is e = told-bad (good-line 10 0 bs) (sym (ap first-line-status e) ∙ o .status)
 
 -- a line of two digits, byte by byte
 pub line-bytes : (a : ℕ) (bs : List ℕ)
@@ -93,33 +110,26 @@ unfolding good-lines
 line-of zero a bs e i h = absurd (omega arith)
 line-of (suc n) a bs e zero h =
     let here : a + 3 * 0 ≡ a = omega arith in
-    rw here (and-eq-true-iff (good-line 2 a bs) (good-lines n (a + 3) bs) .0 e .0)
+    rw here (and-left (good-line 2 a bs) _ e)
 line-of (suc n) a bs e (suc i) h =
     let there : a + 3 * suc i ≡ a + 3 + 3 * i = omega arith in
-    rw there (line-of n (a + 3) bs (and-eq-true-iff (good-line 2 a bs) (good-lines n (a + 3) bs) .0 e .1) i (omega arith))
+    rw there (line-of n (a + 3) bs (and-right (good-line 2 a bs) _ e) i (omega arith))
 
 -- a good line has its two digits
 pub line-digits : (a : ℕ) (bs : List ℕ) → good-line 2 a bs ≡ true → all-digits 2 a bs ≡ true
 unfolding good-line
-line-digits a bs e = and-eq-true-iff (all-digits 2 a bs) (eqb (getD bs (a + 2) 0) line-end) .0 e .0
+line-digits a bs e = and-left (all-digits 2 a bs) _ e
 
 -- good lines: so many, and so many more
-pub lines-left : (m n a : ℕ) (bs : List ℕ) → good-lines (m + n) a bs ≡ true → good-lines m a bs ≡ true
-unfolding good-lines
-lines-left zero n a bs e = refl
-lines-left (suc m) n a bs e =
-    let both = and-eq-true-iff (good-line 2 a bs) (good-lines (m + n) (a + 3) bs) .0 (rw suc-add at e) in
-    rw (both .0) (lines-left m n (a + 3) bs (both .1))
+module _ (m n a : ℕ) (bs : List ℕ) (good : good-lines (m + n) a bs ≡ true) where
+  both-good : good-lines m a bs && good-lines n (a + 3 * m) bs ≡ true
+  both-good = rw (good-lines-split m n a bs) at good
 
-pub lines-right : (m n a : ℕ) (bs : List ℕ) → good-lines (m + n) a bs ≡ true → good-lines n (a + 3 * m) bs ≡ true
-unfolding good-lines
-lines-right zero n a bs e =
-    let here : a + 3 * 0 ≡ a = omega arith in
-    rw here (rw zero-add at e)
-lines-right (suc m) n a bs e =
-    let there : a + 3 * suc m ≡ a + 3 + 3 * m = omega arith in
-    let both = and-eq-true-iff (good-line 2 a bs) (good-lines (m + n) (a + 3) bs) .0 (rw suc-add at e) in
-    rw there (lines-right m n (a + 3) bs (both .1))
+  pub lines-left : good-lines m a bs ≡ true
+  lines-left = and-left _ _ both-good
+
+  pub lines-right : good-lines n (a + 3 * m) bs ≡ true
+  lines-right = and-right (good-lines m a bs) _ both-good
 
 -- the bytes of one line more
 pub bytes-more : (i a : ℕ) (bs : List ℕ) → bytes-in (suc i) a bs ≡ bytes-in i a bs ++ (number 2 (a + 3 * i) bs ∷ [])
@@ -132,17 +142,21 @@ bytes-more (suc i) a bs =
     rw there (ap (λ (l : List ℕ). number 2 a bs ∷ l) (bytes-more i (a + 3) bs))
 
 -- past the first line, the status of reading goes by its fields
-pub status-by-fields : (bs : List ℕ) (f : Fields) (pattern text : ℕ) → First-line-read bs f
-    → read-status bs pattern text
-    ≡ first-of
-    (refuse 3 (not (eqb (f .edition) 1))
-    ∷ pattern-refusal (f .m)
-    ∷ hold-refusal (f .m) (f .q)
-    ∷ text-refusal (f .n)
-    ∷ refuse 1 (not (eqb (length bs) (file-length (f .m) (f .n))))
-    ∷ refuse 2 (not (good-lines (f .m + f .n) 11 bs))
-    ∷ buffer-refusal pattern (f .m)
-    ∷ buffer-refusal text (f .n)
-    ∷ [])
-unfolding read-status file-refusals first-of
-status-by-fields bs f pattern text r = rw (r .given, le-ltb (length bs) 11 (r .there), r .good)
+module _ (bs : List ℕ) (f : Fields) (pattern text : ℕ) where
+  -- past 4, 5 and 6: 1, then 2 in the rest, then 7
+  abbrev pub size-refusals : List Refusal
+  size-refusals =
+      refuse 1 (not (eqb (length bs) (file-length (f .m) (f .n))))
+      ∷ refuse 2 (not (good-lines (f .m + f .n) 11 bs))
+      ∷ buffer-refusal pattern (f .m)
+      ∷ buffer-refusal text (f .n)
+      ∷ []
+
+  module _ (r : First-line-read bs f) where
+    pub other-edition : (f .edition ≡ 1 → ⊥) → read-status bs pattern text ≡ 3
+    unfolding read-status file-refusals first-of
+    other-edition h = rw (le-ltb (length bs) 11 (r .there), r .good, ne-eqb (edition-in bs) 1 (rw (r .given) at h))
+
+    pub edition-read : f .edition ≡ 1 → read-status bs pattern text ≡ first-of (job-refusals (f .m) (f .q) (f .n) ++ size-refusals)
+    unfolding read-status file-refusals first-of job-refusals
+    edition-read e = rw (r .given, le-ltb (length bs) 11 (r .there), r .good, eq-eqb (edition-in bs) 1 (rw (r .given) at e))

@@ -1,5 +1,4 @@
 // Reading a job file: all of it is checked before anything is written to the caller's buffers.
-use answers::Answer;
 use hex::Parsed;
 use job::ReadAnswer;
 use lines::LINE_END;
@@ -12,8 +11,8 @@ ghost use Rattle.hex.specs.Hex.{is-digit, digit-value, all-digits, number};
 ghost use Rattle.hex.specs.Parsed.{Parsed-outcome};
 ghost use Rattle.answers.specs.Answers.{status-only};
 ghost use Rattle.job.specs.Job.{good-lines, bytes-in};
+ghost use Rattle.job.specs.Read.{read-status, Read-outcome};
 ghost use Rattle.lines.specs.Lines.{line-end};
-ghost use Rattle.job.specs.Read.{read-status, read-answer, Read-outcome};
 ghost use Rattle.reader.specs.FirstLine.{First-line-outcome, First-line-read};
 
 // What a job's first line gives.
@@ -119,14 +118,9 @@ fn status_of(file: &[u8], fields: Fields, pattern: usize, text: usize) -> u32
     if fields.edition != 1 {
         return 3;
     }
-    if m == 0 || 128 < m {
-        return 4;
-    }
-    if m <= fields.q {
-        return 5;
-    }
-    if 16384 < n {
-        return 6;
+    let status = answers::job_status(m, fields.q, n);
+    if status != 0 {
+        return status;
     }
     if file.len() != 11 + 3 * m + 3 * n {
         return 1;
@@ -169,12 +163,7 @@ fn refused(status: u32) -> ReadAnswer
     ensures { λ r. ⌜ r ≡ record { answer = status-only status; m = 0; q = 0; n = 0 } ⌝ }
 {
     ReadAnswer {
-        answer: Answer {
-            status,
-            occurrences: 0,
-            comparisons: 0,
-            ones: 0,
-        },
+        answer: answers::status_only(status),
         m: 0,
         q: 0,
         n: 0,
@@ -200,12 +189,7 @@ pub fn read_job(file: &[u8], pattern: &mut [u8], text: &mut [u8]) -> ReadAnswer
     read_lines(file, 11, &mut pattern[..m]);
     read_lines(file, 11 + 3 * m, &mut text[..n]);
     ReadAnswer {
-        answer: Answer {
-            status: 0,
-            occurrences: 0,
-            comparisons: 0,
-            ones: 0,
-        },
+        answer: answers::status_only(0),
         m: m as u32,
         q: fields.q as u32,
         n: n as u32,

@@ -9,13 +9,12 @@ use borrow.Author.Tests.{le-ltb, leb-true, leb-false, ne-eqb}
 use lib.Dec.{leb, eqb}
 use lib.ListN.{length, take}
 use lib.Seq.{take-all, getD-take, length-take-le}
-use Rattle.answers.proofs.Refusals.{limits-hold}
-use Rattle.answers.specs.Refusals.{Refusal, refuse, first-of, pattern-refusal, hold-refusal, text-refusal}
+use Rattle.answers.proofs.Refusals.{same-past, limits-hold}
+use Rattle.answers.specs.Refusals.{Refusal, refuse, first-of, job-refusals}
 use Rattle.hex.specs.Hex.{all-digits, number}
 use Rattle.job.proofs.Taken.{taken}
 use Rattle.job.specs.Job.{edition-in, m-in, q-in, n-in, good-line, good-lines, file-length, file-refusals, file-status}
 use Rattle.report.proofs.Printed.{printed-refused}
-use Rattle.report.proofs.Statuses.{first-past}
 use Rattle.report.specs.Promises.{longest-file, Cut-right}
 use Rattle.printer.specs.Printed.{refused-report}
 use Rattle.report.specs.Report.{seek-report}
@@ -36,10 +35,7 @@ first-line-refusals : List ℕ → List Refusal
 first-line-refusals bs =
     refuse 2 (not (good-line 10 0 bs))
     ∷ refuse 3 (not (eqb (edition-in bs) 1))
-    ∷ pattern-refusal (m-in bs)
-    ∷ hold-refusal (m-in bs) (q-in bs)
-    ∷ text-refusal (n-in bs)
-    ∷ []
+    ∷ job-refusals (m-in bs) (q-in bs) (n-in bs)
 
 first-line-take : (n : ℕ) (bs : List ℕ) → 11 ≤ n → first-line-refusals (take n bs) ≡ first-line-refusals bs
 unfolding first-line-refusals good-line edition-in m-in q-in n-in
@@ -55,15 +51,15 @@ first-line-take n bs h =
 
 -- a file longer than the longest is refused by its first line or else by its length
 long-status : (bs : List ℕ) → longest-file < length bs → file-status bs ≡ first-of (first-line-refusals bs ++ (refuse 1 true ∷ []))
-unfolding file-status file-refusals first-line-refusals first-of
+unfolding file-status file-refusals first-line-refusals first-of job-refusals
 long-status bs h =
     rw (le-ltb (length bs) 11 (omega arith))
-    (first-past
+    (same-past
     (first-line-refusals bs)
     (refuse 1 (not (eqb (length bs) (file-length (m-in bs) (n-in bs)))) ∷ refuse 2 (not (good-lines (m-in bs + n-in bs) 11 bs)) ∷ [])
     (refuse 1 true ∷ [])
     (λ none.
-    let limits = limits-hold (m-in bs) (q-in bs) (n-in bs) (none .1 .1) in
+    let limits = limits-hold (m-in bs) (q-in bs) (n-in bs) (none .1 .1) .0 in
     rw (ne-eqb (length bs) (file-length (m-in bs) (n-in bs)) (λ e. omega arith))))
 
 -- so it prints the refusal

@@ -3,7 +3,7 @@
 use mathlib.Core.Path.{refl}
 use lib.Count.{ones}
 use Rattle.answers.specs.Answers.{if-done}
-use Rattle.answers.specs.Refusals.{first-of}
+use Rattle.answers.specs.Refusals.{first-of, job-refusals}
 use Rattle.hex.specs.Hex.{is-digit, digit-value, digit, digits, all-digits, number}
 use Rattle.lines.specs.Lines.{line, lines}
 use Rattle.job.specs.Job.{first-line, job-file, edition-in, m-in, q-in, n-in, bytes-in, pattern-in, text-in, good-line, good-lines, file-refusals, file-status}
@@ -25,7 +25,7 @@ x then y = (x, y)
 
 pub examples-hold : All-hold examples
 unfolding bytes Holds examples All All-hold
-    if-done first-of is-digit digit-value digit digits all-digits number
+    if-done first-of job-refusals is-digit digit-value digit digits all-digits number
     lines first-line job-file edition-in m-in q-in n-in bytes-in pattern-in text-in good-line good-lines file-refusals file-status
     least-from all-from Neg h-min k-min r-min period second-group-from second-group third-group-from third-group order stored-order Δ1 Δ2
     occurs occurrences-from all-occurrences occurrences bound

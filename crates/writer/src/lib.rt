@@ -3,26 +3,19 @@ ghost use mathlib.Core.List.{_++_};
 ghost use mathlib.Core.Path.{_≡_};
 ghost use Prim.Native.Nat.{_+_, _*_, _≤_};
 ghost use lib.ListN.{length, take};
-ghost use Rattle.answers.specs.Answers.{status-only};
 ghost use Rattle.answers.specs.Buffers.{in-front};
 ghost use Rattle.job.specs.Job.{first-line};
 ghost use Rattle.lines.specs.Lines.{lines};
 ghost use Rattle.job.specs.Write.{write-status, Write-outcome};
-use answers::Answer;
 use job::WriteAnswer;
 
 // The status of writing, measured before anything is written.
 fn write_status(m: usize, q: u32, n: usize, file: usize) -> u32
     ensures { λ r. ⌜ r ≡ write-status m q n file ⌝ }
 {
-    if m == 0 || 128 < m {
-        return 4;
-    }
-    if m <= q as usize {
-        return 5;
-    }
-    if 16384 < n {
-        return 6;
+    let status = answers::job_status(m, q as usize, n);
+    if status != 0 {
+        return status;
     }
     if file < 11 + 3 * m + 3 * n {
         return 7;
@@ -59,27 +52,18 @@ pub fn write_job(hold: u32, pattern: &[u8], text: &[u8], file: &mut [u8]) -> Wri
     let n = text.len();
     let status = write_status(m, hold, n, file.len());
     if status != 0 {
-        return answer(status, 0);
+        return WriteAnswer {
+            answer: answers::status_only(status),
+            bytes: 0,
+        };
     }
     let text_at = 11 + 3 * m;
     let bytes = text_at + 3 * n;
     write_first_line(m as u32, hold, n as u32, file);
     write_lines(pattern, 11, file);
     write_lines(text, text_at, file);
-    answer(0, bytes as u32)
-}
-
-// The answer of a status and a file's length.
-fn answer(status: u32, bytes: u32) -> WriteAnswer
-    ensures { λ r. ⌜ r ≡ record { answer = status-only status; bytes = bytes } ⌝ }
-{
     WriteAnswer {
-        answer: Answer {
-            status,
-            occurrences: 0,
-            comparisons: 0,
-            ones: 0,
-        },
-        bytes,
+        answer: answers::status_only(0),
+        bytes: bytes as u32,
     }
 }

@@ -6,26 +6,26 @@ use mathlib.Core.Path.{_≡_}
 use borrow.Author.Tests.{lt-ltb, le-ltb, le-leb, lt-leb, eq-eqb, ne-eqb}
 use Rattle.answers.proofs.job_status.Statement.{statement}
 use Rattle.answers.proofs.job_status.Tie as tie
-use Rattle.answers.specs.Refusals.{first-of, pattern-refusal}
+use Rattle.answers.specs.Refusals.{first-of, pattern-refusal, job-refusals}
 
 -- the pattern's test, where it was passed
 pattern-passed : (c : tie.Else2) → (pattern-refusal (c .before .before .args .m)) .holds ≡ false
 pattern-passed c = rw (ne-eqb _ _ (c .before .if1 .left)) (c .if2 .left)
 
 returns : tie.Need-returns
-unfolding first-of
+unfolding first-of job-refusals
 returns c = ⊎-elim (λ w. simp (eq-eqb _ _ (w .taken))) (λ w. simp (ne-eqb _ _ (w .0 .left), w .1 .taken)) (c .if1 .came)
 
 returns-2 : tie.Need-returns-2
-unfolding first-of
+unfolding first-of job-refusals
 returns-2 c = simp (pattern-passed (c .before), le-leb _ _ (c .if3 .taken))
 
 returns-3 : tie.Need-returns-3
-unfolding first-of
+unfolding first-of job-refusals
 returns-3 c = simp (pattern-passed (c .before .before), lt-leb _ _ (c .before .if3 .left), lt-ltb _ _ (c .if4 .taken))
 
 returns-4 : tie.Need-returns-4
-unfolding first-of
+unfolding first-of job-refusals
 returns-4 c = simp (pattern-passed (c .before .before), lt-leb _ _ (c .before .if3 .left), le-ltb _ _ (c .if4 .left))
 
 pub job-status-spec : {M : Type 1} → statement M

@@ -1,22 +1,20 @@
 -- `matcher::search` meets its contract: a refused call leaves everything, and one that is taken writes the tables and runs the steps by them.
 -- By the laws of a search's outcome. Assumes nothing.
-use mathlib.Core.Path.{_≡_, sym, _∙_}
+use mathlib.Core.Path.{sym, _∙_}
 use borrow.Author.Needs.{needs}
 use Rattle.matcher.proofs.Searched.{Search-fit, search-fit, refused, run-ready, done}
 use Rattle.matcher.proofs.search.Statement.{statement}
 use Rattle.matcher.proofs.search.Tie as tie
 
 returns : tie.Need-returns
-returns c = rw (← (c .before .search-status .ensures)) (refused (c .before .search-status .result) (c .if1 .taken))
+returns c =
+    rw (c .status-only .ensures, ← c .before .before .search-status .ensures) (refused _ (c .before .if1 .taken))
 
 -- the status is 0: the search is taken
 fit :
     (c : tie.Else1) → let a = c .before .before .before .before .before .before .before .args in
     Search-fit (a .pattern .now) (a .text .now) (a .order .now) (a .delta2 .now) (a .delta1 .now) (a .found .now)
 fit c = search-fit (sym (c .before .search-status .ensures) ∙ c .if1 .left)
-
-write-tables-requires : tie.Need-write-tables-requires
-write-tables-requires c κs = fit (c .before .before .before) .tables
 
 run-steps-requires : tie.Need-run-steps-requires
 run-steps-requires c κs =
@@ -34,8 +32,9 @@ search-spec =
     tie.close
     (tie.spec
     (λ c κs. search needs)
+    (λ c κs. search needs)
     returns
-    write-tables-requires
+    (λ c κs. fit (c .before .before .before) .tables)
     run-steps-requires
     (λ c. search needs)
     (λ c. search needs)

@@ -5,11 +5,12 @@ use mathlib.Core.Path.{_≡_, refl, sym, _∙_, ap}
 use Prim.Native.Nat.{ℕ, zero, suc}
 use borrow.Author.Needs.{needs}
 use lib.IntN.{ℤ}
+use lib.ListN.{length}
 use Rattle.answers.specs.Answers.{status-only, if-done}
 use Rattle.prepare.proofs.Fit.{prepared-fit}
 use Rattle.prepare.proofs.prepare.Statement.{statement}
 use Rattle.prepare.proofs.prepare.Tie as tie
-use Rattle.tables.specs.Prepare.{Tables-left}
+use Rattle.tables.specs.Prepare.{prepare-status, Tables-left}
 
 -- a refused call leaves the buffers
 untouched :
@@ -18,31 +19,32 @@ unfolding if-done
 untouched zero w order delta2 delta1 h = absurd (h refl)
 untouched (suc s) w order delta2 delta1 h = record { order-left = refl; delta2-left = refl; delta1-left = refl }
 
-write-tables-requires : tie.Need-write-tables-requires
-write-tables-requires c κs =
-    let chosen = c .before .before .before in
-    prepared-fit _ _ _ _ (sym (chosen .before .prepare-status .ensures) ∙ chosen .if1 .taken)
+-- the status is 0
+done : (c : tie.Else1) → let a = c .before .before .before .before .before .args in
+    prepare-status (length (a .pattern .now)) (length (a .order .now)) (length (a .delta2 .now)) (length (a .delta1 .now)) ≡ 0
+done c = sym (c .before .prepare-status .ensures) ∙ c .if1 .left
 
 returns : tie.Need-returns
 returns c =
-    let written = c .before .before .before .before .before in
-    let chosen = written .before .before .before .before in
-    let status = chosen .before .prepare-status .ensures in
-    record { answer = ap status-only status; tables = rw (← status, chosen .if1 .taken) (written .write-tables .ensures) }
+    let status = c .before .before .prepare-status .ensures in
+    record { answer = c .status-only .ensures ∙ ap status-only status; tables = rw (← status) (untouched _ _ _ _ _ (c .before .if1 .taken)) }
 
 returns-2 : tie.Need-returns-2
 returns-2 c =
-    let status = c .before .prepare-status .ensures in
-    record { answer = ap status-only status; tables = rw (← status) (untouched _ _ _ _ _ (c .if1 .left)) }
+    let written = c .before .before .before .before .before .before in
+    let status = done (written .before .before .before .before) in
+    record { answer = rw status (c .status-only2 .ensures); tables = rw status (written .write-tables .ensures) }
 
 pub prepare-spec : {M : Type 1} → statement M
 prepare-spec =
     tie.close
     (tie.spec
     (λ c κs. search needs)
-    write-tables-requires
-    (λ c. search needs)
-    (λ c. search needs)
-    (λ c. search needs)
+    (λ c κs. search needs)
     returns
+    (λ c κs. prepared-fit _ _ _ _ (done (c .before .before .before)))
+    (λ c κs. search needs)
+    (λ c. search needs)
+    (λ c. search needs)
+    (λ c. search needs)
     returns-2)

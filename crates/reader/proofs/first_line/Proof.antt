@@ -3,55 +3,32 @@
 use mathlib.Core.Bool.{and-false}
 use native.Mathlib.Omega.{arith}
 use borrow.Author.Tests.{eq-eqb, ne-eqb}
-use Rattle.hex.proofs.Parse.{refused-bad, value-good, value-is}
-use Rattle.reader.proofs.Reading.{first-line-pairs, first-refused, first-good, fields-read}
+use Rattle.reader.proofs.Reading.{first-line-pairs, first-refused, first-good, fields-read, pair-refused, pair-read}
 use borrow.Author.Needs.{needs}
+use Rattle.job.specs.Job.{good-line}
 use Rattle.reader.proofs.first_line.Statement.{statement}
 use Rattle.reader.proofs.first_line.Tie as tie
 
-returns : tie.Need-returns
-returns c =
-    let bad = refused-bad _ _ _ (c .before .before .pair-at .ensures) (c .enum-told .given .1) in
-    first-refused _ (rw (first-line-pairs, bad))
-
-returns-2 : tie.Need-returns-2
-returns-2 c =
-    let bad = refused-bad _ _ _ (c .before .before .pair-at2 .ensures) (c .enum-told2 .given .1) in
-    first-refused _ (rw (first-line-pairs, bad) (simp and-false))
-
-returns-3 : tie.Need-returns-3
-returns-3 c =
-    let bad = refused-bad _ _ _ (c .before .before .pair-at3 .ensures) (c .enum-told3 .given .1) in
-    first-refused _ (rw (first-line-pairs, bad) (simp and-false))
-
-returns-4 : tie.Need-returns-4
-returns-4 c =
-    let bad = refused-bad _ _ _ (c .before .before .pair-at4 .ensures) (c .enum-told4 .given .1) in
-    first-refused _ (rw (first-line-pairs, bad) (simp and-false))
-
-returns-5 : tie.Need-returns-5
-returns-5 c =
-    let bad = refused-bad _ _ _ (c .before .before .pair-at5 .ensures) (c .enum-told5 .given .1) in
-    first-refused _ (rw (first-line-pairs, bad) (simp and-false))
-
+-- the line end is another byte
 returns-6 : tie.Need-returns-6
-returns-6 c = first-refused _ (rw (first-line-pairs, ne-eqb _ _ (c .if1 .taken)) (simp and-false))
+unfolding good-line
+returns-6 c = first-refused _ (rw (ne-eqb _ _ (c .if1 .taken), and-false))
 
 returns-7 : tie.Need-returns-7
 returns-7 c =
-    let edition-read = c .before .before .before .before .before .before .before .before .before .before .before .before .before .before .before .before .before .before .before .before .before .pair-at .ensures in
-    let edition-is = c .before .before .before .before .before .before .before .before .before .before .before .before .before .before .before .before .before .before .before .edition .given .1 in
-    let m-read = c .before .before .before .before .before .before .before .before .before .before .before .before .before .before .before .before .before .pair-at2 .ensures in
-    let m-is = c .before .before .before .before .before .before .before .before .before .before .before .before .before .before .before .m .given .1 in
-    let q-read = c .before .before .before .before .before .before .before .before .before .before .before .before .before .pair-at3 .ensures in
-    let q-is = c .before .before .before .before .before .before .before .before .before .before .before .q .given .1 in
-    let high-read = c .before .before .before .before .before .before .before .before .before .pair-at4 .ensures in
-    let high-is = c .before .before .before .before .before .before .before .high .given .1 in
-    let low-read = c .before .before .before .before .before .pair-at5 .ensures in
-    let low-is = c .before .before .before .low .given .1 in
+    let low = c .before .before .before in
+    let high = low .before .before .before .before in
+    let q = high .before .before .before .before in
+    let m = q .before .before .before .before in
+    let edition = m .before .before .before .before in
+    let (edition-good, edition-is) = pair-read _ _ _ (edition .before .before .pair-at .ensures) _ (edition .edition .given .1) in
+    let (m-good, m-is) = pair-read _ _ _ (m .before .before .pair-at2 .ensures) _ (m .m .given .1) in
+    let (q-good, q-is) = pair-read _ _ _ (q .before .before .pair-at3 .ensures) _ (q .q .given .1) in
+    let (high-good, high-is) = pair-read _ _ _ (high .before .before .pair-at4 .ensures) _ (high .high .given .1) in
+    let (low-good, low-is) = pair-read _ _ _ (low .before .before .pair-at5 .ensures) _ (low .low .given .1) in
     first-good _ _
-    (rw (first-line-pairs, value-good _ _ _ edition-read _ edition-is, value-good _ _ _ m-read _ m-is, value-good _ _ _ q-read _ q-is, value-good _ _ _ high-read _ high-is, value-good _ _ _ low-read _ low-is, eq-eqb _ _ (c .if1 .left)))
-    (fields-read _ _ _ _ _ _ (value-is _ _ _ edition-read _ edition-is) (value-is _ _ _ m-read _ m-is) (value-is _ _ _ q-read _ q-is) (value-is _ _ _ high-read _ high-is) (value-is _ _ _ low-read _ low-is))
+    (rw (first-line-pairs, edition-good, m-good, q-good, high-good, low-good, eq-eqb _ _ (c .if1 .left)))
+    (fields-read _ _ _ _ _ _ edition-is m-is q-is high-is low-is)
 
 pub first-line-spec : {M : Type 1} → statement M
 first-line-spec =
@@ -60,23 +37,23 @@ first-line-spec =
     (λ c κs. search needs)
     (λ c. search needs)
     (λ c. search needs)
-    returns
+    (λ c. pair-refused _ _ _ (c .before .before .pair-at .ensures) (omega arith) (c .enum-told .given .1))
     (λ c κs. search needs)
     (λ c. search needs)
     (λ c. search needs)
-    returns-2
+    (λ c. pair-refused _ _ _ (c .before .before .pair-at2 .ensures) (omega arith) (c .enum-told2 .given .1))
     (λ c κs. search needs)
     (λ c. search needs)
     (λ c. search needs)
-    returns-3
+    (λ c. pair-refused _ _ _ (c .before .before .pair-at3 .ensures) (omega arith) (c .enum-told3 .given .1))
     (λ c κs. search needs)
     (λ c. search needs)
     (λ c. search needs)
-    returns-4
+    (λ c. pair-refused _ _ _ (c .before .before .pair-at4 .ensures) (omega arith) (c .enum-told4 .given .1))
     (λ c κs. search needs)
     (λ c. search needs)
     (λ c. search needs)
-    returns-5
+    (λ c. pair-refused _ _ _ (c .before .before .pair-at5 .ensures) (omega arith) (c .enum-told5 .given .1))
     (λ c. search needs)
     returns-6
     (λ c. search needs)

@@ -2,7 +2,7 @@
 -- Assumes nothing.
 use mathlib.Core.Bool.{true, false}
 use mathlib.Core.List.{List, _++_}
-use mathlib.Core.Path.{_≡_, refl, sym, ap, _∙_}
+use mathlib.Core.Path.{_≡_, refl, sym, _∙_}
 use Prim.Native.Nat.{ℕ, zero, suc, _+_, _*_, _≤_, _<_}
 use native.Mathlib.Omega.{arith}
 use borrow.Author.Needs.{needs}
@@ -17,7 +17,7 @@ use Rattle.reader.proofs.Reading.{good-is, good-fields, refused-is, lin
 use Rattle.job.proofs.Taken.{Readable, readable}
 use Rattle.reader.proofs.read_job.Statement.{statement}
 use Rattle.reader.proofs.read_job.Tie as tie
-use Rattle.job.specs.Job.{good-line, good-lines, bytes-in, m-in, n-in, pattern-in, text-in, file-refusals}
+use Rattle.job.specs.Job.{good-line, good-lines, bytes-in, pattern-in, text-in, file-refusals}
 use Rattle.job.specs.Read.{read-status, read-answer, Read-outcome, Read-outcome-of}
 use Rattle.reader.specs.FirstLine.{First-line-read, fields-in}
 use Rattle.reader.specs.declared.Fields.{Fields}
@@ -113,52 +113,22 @@ returns-2 c =
     rw (bad-first-line (args .file .now) (length (args .pattern .now)) (length (args .text .now)) (omega arith) bad)
     (refused 2 _ _ _ _ (omega arith) (c .refused2 .ensures))
 
-status-of-requires : tie.Need-status-of-requires
-status-of-requires c κs = line-read (c .before)
-
 returns-3 : tie.Need-returns-3
 returns-3 c = rw (← c .before .before .status-of .ensures) (refused _ _ _ _ _ (c .before .if2 .taken) (c .refused3 .ensures))
-
-slice-relend-prefix-read-lines : tie.Need-slice-relend-prefix-read-lines
-slice-relend-prefix-read-lines c = sized c .pattern-room
-
-slice-aggregate-read-lines : tie.Need-slice-aggregate-read-lines
-slice-aggregate-read-lines c = sym (length-take-le _ _ (sized (c .before) .pattern-room))
 
 read-lines-requires : tie.Need-read-lines-requires
 read-lines-requires c κs =
     let known = sized (c .before) in
     rw (length-take-le _ _ (known .pattern-room)) (omega (arith, known), lines-left _ _ _ _ (known .lines))
 
-mul-read-lines : tie.Need-mul-read-lines
-mul-read-lines c = omega (arith, sized (c .before .before .before .before))
-
-add-read-lines : tie.Need-add-read-lines
-add-read-lines c = omega (arith, sized (c .before .before .before .before))
-
-slice-relend-prefix-read-lines-2 : tie.Need-slice-relend-prefix-read-lines-2
-slice-relend-prefix-read-lines-2 c = sized (c .before .before .before .before) .text-room
-
-slice-aggregate-read-lines-2 : tie.Need-slice-aggregate-read-lines-2
-slice-aggregate-read-lines-2 c = sym (length-take-le _ _ (sized (c .before .before .before .before .before) .text-room))
-
 read-lines-requires-2 : tie.Need-read-lines-requires-2
 read-lines-requires-2 c κs =
     let known = sized (c .before .before .before .before .before) in
     rw (length-take-le _ _ (known .text-room)) (omega (arith, known), lines-right _ _ _ _ (known .lines))
 
-cast-t18 : tie.Need-cast-t18
-cast-t18 c = omega (arith, sized (c .before .before .before .before .before .before .before .before))
-
-cast-t19 : tie.Need-cast-t19
-cast-t19 c = omega (arith, sized (c .before .before .before .before .before .before .before .before .before))
-
-cast-t20 : tie.Need-cast-t20
-cast-t20 c = omega (arith, sized (c .before .before .before .before .before .before .before .before .before))
-
 returns-4 : tie.Need-returns-4
 returns-4 c =
-    let second = c .before .before .before in
+    let second = c .before .before .before .before in
     let first = second .before .before .before .before in
     let passed = first .before .before in
     let known = sized passed in
@@ -167,7 +137,7 @@ returns-4 c =
     (sym (passed .before .status-of .ensures) ∙ passed .if2 .left)
     (front-read _ _ _ _ _ (known .pattern-room) (first .read-lines .ensures))
     (front-read _ _ _ _ _ (known .text-room) (second .read-lines2 .ensures))
-    refl
+    (rw (c .before .status-only .ensures))
 
 pub read-job-spec : {M : Type 1} → statement M
 read-job-spec =
@@ -180,20 +150,21 @@ read-job-spec =
     (λ c. search needs)
     (λ c κs. search needs)
     returns-2
-    status-of-requires
+    (λ c κs. line-read (c .before))
     (λ c κs. search needs)
     returns-3
-    slice-relend-prefix-read-lines
-    slice-aggregate-read-lines
+    (λ c. sized c .pattern-room)
+    (λ c. sym (length-take-le _ _ (sized (c .before) .pattern-room)))
     read-lines-requires
-    mul-read-lines
-    add-read-lines
-    slice-relend-prefix-read-lines-2
-    slice-aggregate-read-lines-2
+    (λ c. omega (arith, sized (c .before .before .before .before)))
+    (λ c. omega (arith, sized (c .before .before .before .before)))
+    (λ c. sized (c .before .before .before .before) .text-room)
+    (λ c. sym (length-take-le _ _ (sized (c .before .before .before .before .before) .text-room)))
     read-lines-requires-2
-    cast-t18
-    cast-t19
-    cast-t20
+    (λ c κs. search needs)
+    (λ c. omega (arith, sized (c .before .before .before .before .before .before .before .before .before)))
+    (λ c. omega (arith, sized (c .before .before .before .before .before .before .before .before .before .before)))
+    (λ c. omega (arith, sized (c .before .before .before .before .before .before .before .before .before .before)))
     (λ c. search needs)
     (λ c. search needs)
     returns-4)

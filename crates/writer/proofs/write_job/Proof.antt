@@ -55,19 +55,7 @@ in-limits c = writable _ _ _ _ (sym (c .before .write-status .ensures) ∙ c .if
 
 returns : tie.Need-returns
 returns c =
-    rw (← c .before .before .write-status .ensures) (refused _ _ _ _ _ _ (c .before .if1 .taken) (c .answer .ensures))
-
-write-first-line-requires : tie.Need-write-first-line-requires
-write-first-line-requires c κs = omega (arith, in-limits (c .before))
-
-write-lines-requires : tie.Need-write-lines-requires
-write-lines-requires c κs = omega (arith, in-limits (c .before .before .before .before .before))
-
-write-lines-requires-2 : tie.Need-write-lines-requires-2
-write-lines-requires-2 c κs = omega (arith, in-limits (c .before .before .before .before .before .before .before .before .before))
-
-cast-answer : tie.Need-cast-answer
-cast-answer c = omega (arith, in-limits (c .before .before .before .before .before .before .before .before .before .before .before .before))
+    rw (← c .before .before .write-status .ensures) (refused _ _ _ _ _ _ (c .before .if1 .taken) (rw (c .status-only .ensures)))
 
 returns-2 : tie.Need-returns-2
 returns-2 c =
@@ -76,7 +64,9 @@ returns-2 c =
     let c₀ = c₁ .before .before .before .before in
     let status = c₀ .before .before .before in
     rw (← status .write-status .ensures, c₀ .before .before .if1 .left)
-    (done _ _ _ _ _ _ (c .answer2 .ensures) (all-written _ _ _ _ _ _ _ (c₀ .write-first-line .ensures) (c₁ .write-lines .ensures) (c₂ .write-lines2 .ensures)))
+    (done _ _ _ _ _ _
+    (rw (c .status-only2 .ensures))
+    (all-written _ _ _ _ _ _ _ (c₀ .write-first-line .ensures) (c₁ .write-lines .ensures) (c₂ .write-lines2 .ensures)))
 
 pub write-job-spec : {M : Type 1} → statement M
 write-job-spec =
@@ -91,10 +81,10 @@ write-job-spec =
     (λ c. omega (arith, in-limits c))
     (λ c. omega (arith, in-limits c))
     (λ c. omega (arith, in-limits c))
-    write-first-line-requires
-    write-lines-requires
-    write-lines-requires-2
-    cast-answer
+    (λ c κs. omega (arith, in-limits (c .before)))
+    (λ c κs. omega (arith, in-limits (c .before .before .before .before .before)))
+    (λ c κs. omega (arith, in-limits (c .before .before .before .before .before .before .before .before .before)))
     (λ c κs. search needs)
+    (λ c. omega (arith, in-limits (c .before .before .before .before .before .before .before .before .before .before .before .before .before)))
     (λ c. search needs)
     returns-2)
