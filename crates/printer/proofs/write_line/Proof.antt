@@ -76,9 +76,6 @@ loop-again c =
       turn _ _ (args .number) (args .at) (head .loop .left) done (head .loop .rest) _ places stores (omega arith) (c .digit-of .ensures),
     )
 
-same-length : tie.Need-same-length Inv-loop μ-loop
-same-length c = simp length-set (omega arith)
-
 returns : tie.Need-returns Inv-loop μ-loop
 returns c =
     let head = c .before in
@@ -104,5 +101,5 @@ write-line-spec =
     loop-again
     (λ c. omega arith)
     (λ c. omega arith)
-    same-length
+    (λ c. simp length-set (omega arith))
     returns)

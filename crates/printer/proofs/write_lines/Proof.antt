@@ -43,22 +43,11 @@ turn numbers out₀ out out' at i h l e e' =
     new-length : length new ≡ at + 5 * i
     new-length = simp (length-append, length-four-digit-lines, length-take) (omega arith)
 
-loop-holds : tie.Need-loop-holds Inv-loop μ-loop
-loop-holds c =
-    let args = c .before .before .args in
-    (omega arith, refl, start (args .out .now) (args .at) (omega arith))
-
-cast-write-line : tie.Need-cast-write-line Inv-loop μ-loop
-cast-write-line c = omega (arith, c .shared-slice-known2 .given (c .before .before .loop .i))
-
 loop-again : tie.Need-loop-again Inv-loop μ-loop
 loop-again c =
     let head = c .before .before .before .before .before .before in
     let call = c .before .before .write-line in
     (omega arith, omega arith, turn _ _ _ _ _ (head .loop .i) (omega arith) (omega arith) (head .loop .inv .2) (call .ensures))
-
-same-length : tie.Need-same-length Inv-loop μ-loop
-same-length c = c .before .loop .inv .1
 
 returns : tie.Need-returns Inv-loop μ-loop
 returns c =
@@ -71,15 +60,15 @@ write-lines-spec =
     (tie.spec
     Inv-loop
     μ-loop
-    loop-holds
+    (λ c. let args = c .before .before .args in (omega arith, refl, start (args .out .now) (args .at) (omega arith)))
     (λ c. omega arith)
     (λ c. omega arith)
-    cast-write-line
+    (λ c. omega (arith, c .shared-slice-known2 .given (c .before .before .loop .i)))
     (λ c. omega arith)
     (λ c. omega arith)
     (λ c κs. omega arith)
     (λ c. omega arith)
     (λ c. omega arith)
     loop-again
-    same-length
+    (λ c. c .before .loop .inv .1)
     returns)

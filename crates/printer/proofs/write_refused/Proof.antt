@@ -26,15 +26,6 @@ unfolding refused-report
 both o out s h e = rw (e, in-front-sets (digits 2 0xFF) o 0 (omega (arith, length-digits 2 0xFF)))
     (in-front-append (digits 2 0xFF) (line 2 s) o 2 (length-digits 2 0xFF))
 
-returns : tie.Need-returns
-returns c = too-short _ _ 5 (length-refused _) _ (omega arith) (c .answer .ensures)
-
-slice-write-out-2 : tie.Need-slice-write-out-2
-slice-write-out-2 c = simp length-set (omega arith)
-
-same-length : tie.Need-same-length
-same-length c = simp length-set at (c .before .before .before .write-line .kept .1 .1 .1 .0)
-
 returns-2 : tie.Need-returns-2
 unfolding digits digit
 returns-2 c =
@@ -47,10 +38,10 @@ write-refused-spec =
     tie.close
     (tie.spec
     (λ c κs. search needs)
-    returns
+    (λ c. too-short _ _ 5 (length-refused _) _ (omega arith) (c .answer .ensures))
     (λ c. search needs)
-    slice-write-out-2
+    (λ c. simp length-set (omega arith))
     (λ c κs. search needs)
     (λ c κs. search needs)
-    same-length
+    (λ c. simp length-set at (c .before .before .before .write-line .kept .1 .1 .1 .0))
     returns-2)
