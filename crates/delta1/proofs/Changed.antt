@@ -8,7 +8,7 @@ use native.Mathlib.Omega.{arith}
 use lib.ListN.{length, getD, set, length-set}
 use lib.Seq.{getD-set-same, getD-set-other}
 use Rattle.tables.proofs.Cases.{eq-or-ne}
-use Rattle.delta1.specs.Rows.{Changed}
+use Rattle.delta1.specs.Rows.{Changed, Each-changed}
 
 module _ (f : (i entry : ℕ) → ℕ) where
   pub changed-none : (before : List ℕ) → Changed f 0 before before
@@ -25,3 +25,6 @@ module _ (f : (i entry : ℕ) → ℕ) where
     where
       here : (i : ℕ) → i ≡ n → getD (set after n v) i 0 ≡ f i (getD before i 0)
       here i q = rw (q, getD-set-same after n v 0 (omega (arith, r .same-length)), e, r .kept n (omega arith))
+
+  pub changed-all : {n : ℕ} {before after : List ℕ} → Changed f n before after → n ≡ length before → Each-changed f before after
+  changed-all r e = rw e at r

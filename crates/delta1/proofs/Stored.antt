@@ -9,7 +9,7 @@ use lib.ListN.{length, getD}
 use lib.Seq.{ext-getD}
 use Rattle.tables.proofs.Order.{stored-Δ1-length}
 use Rattle.tables.proofs.Stored.{stored-entry}
-use Rattle.delta1.specs.Rows.{entry, Right-table}
+use Rattle.delta1.specs.Rows.{Right-table}
 use Rattle.tables.specs.Tables.{stored-Δ1}
 
 pub right-stored : (w table : List ℕ) → Right-table w table → 1 ≤ length w → length table ≡ 256 * length w → table ≡ stored-Δ1 w

@@ -1,9 +1,9 @@
--- Lists of numbers that ascend, each once: their entries, their length, and the numbers of a run that pass a test, which are such a list.
+-- Lists of numbers that ascend, each once: their entries, and the numbers of a run that pass a test, which are such a list.
 -- By induction on the list or on the run.
 use mathlib.Core.Bool.{Bool, true, false, cond}
 use mathlib.Core.List.{List, [], _∷_}
 use mathlib.Core.Path.{_≡_, refl}
-use Prim.Native.Nat.{ℕ, zero, suc, _+_, _-_, _≤_, _<_}
+use Prim.Native.Nat.{ℕ, zero, suc, _+_, _≤_, _<_}
 use native.Mathlib.Omega.{arith}
 use lib.ListN.{length, getD}
 
@@ -15,10 +15,6 @@ Ascends low high (b ∷ later) = (low ≤ b) × (b < high) × Ascends (suc b) hi
 ascends-lower : (low low' high : ℕ) (l : List ℕ) → low ≤ low' → Ascends low' high l → Ascends low high l
 ascends-lower low low' high [] h a = tt
 ascends-lower low low' high (b ∷ later) h a = (omega arith, a .1, a .2)
-
-pub ascends-length : (low high : ℕ) (l : List ℕ) → Ascends low high l → length l ≤ high - low
-ascends-length low high [] a = omega arith
-ascends-length low high (b ∷ later) a = omega (arith, ascends-length (suc b) high later (a .2))
 
 pub ascends-entry : (low high : ℕ) (l : List ℕ) → Ascends low high l → (i : ℕ) → i < length l → getD l i 0 < high
 ascends-entry low high [] a i h = absurd (omega arith)

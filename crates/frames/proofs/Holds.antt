@@ -6,15 +6,17 @@ use mathlib.Core.Logic.{⊎-elim}
 use mathlib.Core.Path.{_≡_, refl, sym, _∙_}
 use Prim.Native.Nat.{ℕ, zero, suc, _+_, _-_, _≤_, _<_}
 use native.Mathlib.Omega.{arith}
-use borrow.Author.Tests.{leb-true, eqb-true, eqb-false, eq-eqb, ne-eqb}
-use lib.Dec.{leb, eqb}
+use borrow.Author.Tests.{eqb-true, eqb-false, eq-eqb, ne-eqb}
+use lib.Dec.{eqb}
 use lib.ListN.{length, getD, set, drop, length-set}
 use lib.Seq.{set-append-left, getD-set-same, getD-set-other}
 use Rattle.answers.specs.Buffers.{in-front}
-use Rattle.tables.proofs.Cases.{and-left, eq-or-ne}
+use Rattle.tables.proofs.Cases.{eq-or-ne}
 use Rattle.tables.specs.Sets.{byte}
+use Rattle.steps.proofs.Occurrences.{occurs-inside}
+pub use Rattle.steps.proofs.Occurrences.{occurrences-few}
 use Rattle.steps.specs.Occurrences.{occurs, occurrences-from, all-occurrences, occurrences}
-use Rattle.frames.proofs.Ascending.{Ascends, ascends-length, ascends-entry, passing, passing-ascends, passing-same, passing-none}
+use Rattle.frames.proofs.Ascending.{Ascends, ascends-entry, passing, passing-ascends, passing-same, passing-none}
 use Rattle.frames.specs.Frames.{hold, with-holds, frames}
 use Rattle.frames.specs.Promises.{held-by, Holds-right}
 
@@ -59,10 +61,6 @@ unfolding occurrences-from passing
 occurrences-passing zero b f N w = refl
 occurrences-passing (suc n) b f N w = rw (occurrences-passing n (suc b) f N w)
 
-occurs-inside : (f : ℕ → ℕ) (N : ℕ) (w : List ℕ) (b : ℕ) → occurs f N w b ≡ true → b + length w ≤ N
-unfolding occurs
-occurs-inside f N w b e = leb-true _ _ (and-left (leb (b + length w) N) _ e)
-
 -- the occurrences ascend, each once, below any number that no position of the pattern inside the text reaches
 pub occurrences-ascend :
     (w t : List ℕ) (high : ℕ) → ((b : ℕ) → b + length w ≤ length t → b < high) → Ascends 0 high (occurrences w t)
@@ -78,10 +76,6 @@ pub occurrence-inside : (w t : List ℕ) (i : ℕ) → i < length (occurrences w
 occurrence-inside w t i h =
     let all = occurrences-ascend w t (suc (length t) - length w) (λ b u. omega arith) in
     omega (arith, ascends-entry 0 (suc (length t) - length w) (occurrences w t) all i h)
-
-pub occurrences-few : (w t : List ℕ) → 1 ≤ length w → length (occurrences w t) ≤ length t
-occurrences-few w t h =
-    omega (arith, ascends-length 0 (length t) (occurrences w t) (occurrences-ascend w t (length t) (λ b u. omega arith)))
 
 -- no number before the first b + q is held
 held-before : (q low high i : ℕ) (l : List ℕ) → Ascends low high l → i < low + q → held-by q l i ≡ false

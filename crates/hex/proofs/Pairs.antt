@@ -2,12 +2,11 @@
 -- By unfolding `all-digits` and `number` twice.
 use mathlib.Core.Bool.{true, _&&_, and-true}
 use mathlib.Core.List.{List}
-use mathlib.Core.Path.{_≡_, refl}
-use Prim.Native.Nat.{ℕ, _+_, _*_, _<_}
+use mathlib.Core.Path.{_≡_}
+use Prim.Native.Nat.{ℕ, _+_, _*_}
 use native.Mathlib.Numerals.{add-one}
 use native.Mathlib.Omega.{arith}
 use lib.ListN.{getD}
-use Rattle.hex.proofs.Digits.{value-below}
 use Rattle.hex.proofs.Table.{and-left, and-right}
 use Rattle.hex.specs.Hex.{is-digit, digit-value, all-digits, number}
 
@@ -25,7 +24,3 @@ module _ (a : ℕ) (bs : List ℕ) (good : all-digits 2 a bs ≡ true) where
 
   pub low-digit : is-digit (getD bs (a + 1) 0) ≡ true
   low-digit = and-right (is-digit (getD bs a 0)) (is-digit (getD bs (a + 1) 0)) (rw both-digits at good)
-
-  pub pair-below : number 2 a bs < 256
-  pair-below =
-      omega (arith, pair-number a bs, value-below (getD bs a 0) high-digit, value-below (getD bs (a + 1) 0) low-digit)

@@ -1,22 +1,27 @@
 -- Signed 16-bit numbers as the code has them: small numbers read back from their bits, their differences and sums, and tests of these.
 -- A difference of two numbers is one of two forms, by their order.
 use mathlib.Core.Bool.{Bool, true, false}
+use mathlib.Core.Logic.{⊎-elim}
 use mathlib.Core.Path.{_≡_, refl, sym, _∙_, ap}
 use Prim.Native.Nat.{ℕ, zero, suc, _+_, _-_, _%_, _^_, _≤_, _<_}
 use native.Mathlib.Omega.{arith}
 use borrow.Author.Tests.{ltb-true, ltb-false, lt-ltb, le-ltb, le-leb, lt-leb}
 use lib.Dec.{ltb, leb}
-use lib.IntN.{pos, negsuc, subℕ, _+ℤ_, _-ℤ_, -ℤ-+ℤ-cancel}
+use lib.IntN.{ℤ, pos, negsuc, subℕ, _+ℤ_, _-ℤ_, -ℤ-+ℤ-cancel}
 use lib.Signed.{leZ, ltZ}
 use mir.Syntax.{w16}
 use mir.Val.{SFits, toZ, ofZ}
 use mir.ValLaws.{toZ-pos, toZ-ofZ}
+use Rattle.tables.proofs.Cases.{le-or-lt}
 
 pub subℕ-pos : (a b : ℕ) → b ≤ a → subℕ a b ≡ pos (a - b)
 subℕ-pos a b h = rw (le-ltb a b h)
 
-pub subℕ-neg : (a b : ℕ) → a < b → subℕ a b ≡ negsuc (b - suc a)
+subℕ-neg : (a b : ℕ) → a < b → subℕ a b ≡ negsuc (b - suc a)
 subℕ-neg a b h = rw (lt-ltb a b h)
+
+by-order : (P : ℤ → Type 0) (a b : ℕ) → (a < b → P (negsuc (b - suc a))) → (b ≤ a → P (pos (a - b))) → P (subℕ a b)
+by-order P a b under over = ⊎-elim (λ h. rw (subℕ-pos a b h) (over h)) (λ h. rw (subℕ-neg a b h) (under h)) (le-or-lt b a)
 
 -- a small number is what its bits say
 pub small-fits : (a : ℕ) → a < 2 ^ 15 → SFits w16 (pos a)
@@ -38,19 +43,11 @@ module _ (a b : ℕ) (ha : a < 2 ^ 15) (hb : b < 2 ^ 15) where
   difference = rw (small a ha, small b hb) (pos-minus a b)
 
   pub difference-fits : SFits w16 (subℕ a b)
-  difference-fits = go (ltb a b) refl
-    where
-      go : (z : Bool) → ltb a b ≡ z → SFits w16 (subℕ a b)
-      go true e = rw (subℕ-neg a b (ltb-true a b e)) (record { sfits = omega (arith, hb) })
-      go false e = rw (subℕ-pos a b (ltb-false a b e)) (record { sfits = omega (arith, ha) })
+  difference-fits = by-order (SFits w16) a b (λ h. record { sfits = omega (arith, hb) }) (λ h. record { sfits = omega (arith, ha) })
 
   -- its bits
   pub difference-bits : ofZ w16 (subℕ a b) ≡ (a + 65536 - b) % 65536
-  difference-bits = go (ltb a b) refl
-    where
-      go : (z : Bool) → ltb a b ≡ z → ofZ w16 (subℕ a b) ≡ (a + 65536 - b) % 65536
-      go true e = rw (subℕ-neg a b (ltb-true a b e)) (omega (arith, hb, ltb-true a b e))
-      go false e = rw (subℕ-pos a b (ltb-false a b e)) (omega (arith, ha, ltb-false a b e))
+  difference-bits = by-order (λ z. ofZ w16 z ≡ (a + 65536 - b) % 65536) a b (λ h. omega (arith, hb)) (λ h. omega (arith, ha))
 
   pub difference-back : toZ w16 (ofZ w16 (subℕ a b)) ≡ subℕ a b
   difference-back = toZ-ofZ w16 (subℕ a b) difference-fits
@@ -60,26 +57,17 @@ predecessor a l u = difference a 1 u (omega arith) ∙ subℕ-pos a 1 l
 
 -- a test of a difference is a test of the two numbers
 pub at-least-zero : (a b : ℕ) → leZ (pos 0) (subℕ a b) ≡ leb b a
-at-least-zero a b = go (ltb a b) refl
-  where
-    go : (z : Bool) → ltb a b ≡ z → leZ (pos 0) (subℕ a b) ≡ leb b a
-    go true e = let h = ltb-true a b e in rw (subℕ-neg a b h, lt-leb b a h)
-    go false e = let h = ltb-false a b e in rw (subℕ-pos a b h, le-leb b a h) (le-leb 0 (a - b) (omega arith))
+at-least-zero a b =
+    by-order (λ z. leZ (pos 0) z ≡ leb b a) a b (λ h. sym (lt-leb b a h)) (λ h. rw (le-leb b a h) (le-leb 0 (a - b) (omega arith)))
 
 pub below-zero : (a b : ℕ) → ltZ (subℕ a b) (pos 0) ≡ ltb a b
-below-zero a b = go (ltb a b) refl
-  where
-    go : (z : Bool) → ltb a b ≡ z → ltZ (subℕ a b) (pos 0) ≡ ltb a b
-    go true e = let h = ltb-true a b e in rw (subℕ-neg a b h, e)
-    go false e = let h = ltb-false a b e in rw (subℕ-pos a b h, e) (le-ltb (a - b) 0 (omega arith))
+below-zero a b =
+    by-order (λ z. ltZ z (pos 0) ≡ ltb a b) a b (λ h. sym (lt-ltb a b h)) (λ h. rw (le-ltb a b h) (le-ltb (a - b) 0 (omega arith)))
 
 pub exceeds : (l a b : ℕ) → ltZ (pos l) (subℕ a b) ≡ ltb (l + b) a
-exceeds l a b = go (ltb a b) refl
+exceeds l a b =
+    by-order (λ z. ltZ (pos l) z ≡ ltb (l + b) a) a b (λ h. sym (le-ltb (l + b) a (omega arith))) (λ h. less (ltb (l + b) a) refl)
   where
-    go : (z : Bool) → ltb a b ≡ z → ltZ (pos l) (subℕ a b) ≡ ltb (l + b) a
-    go true e = let h = ltb-true a b e in rw (subℕ-neg a b h) (sym (le-ltb (l + b) a (omega arith)))
-    go false e = let h = ltb-false a b e in rw (subℕ-pos a b h) (less (ltb (l + b) a) refl)
-      where
-        less : (z : Bool) → ltb (l + b) a ≡ z → ltb l (a - b) ≡ z
-        less true q = lt-ltb l (a - b) (omega (arith, ltb-true (l + b) a q))
-        less false q = le-ltb l (a - b) (omega (arith, ltb-false (l + b) a q))
+    less : (z : Bool) → ltb (l + b) a ≡ z → ltb l (a - b) ≡ z
+    less true q = lt-ltb l (a - b) (omega (arith, ltb-true (l + b) a q))
+    less false q = le-ltb l (a - b) (omega (arith, ltb-false (l + b) a q))

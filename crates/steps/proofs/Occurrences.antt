@@ -1,6 +1,6 @@
 -- The occurrences that the steps list are exactly those by meaning (`Occurrences-right`), over any text.
 -- A step tells whether its own position is one and passes over none; by induction on the fuel.
-use mathlib.Core.Bool.{Bool, true, false, cond}
+use mathlib.Core.Bool.{Bool, true, false, cond, and-eq-true-iff}
 use mathlib.Core.List.{List, [], _∷_}
 use mathlib.Core.Logic.{⊎-elim}
 use mathlib.Core.Path.{_≡_, refl, sym, _∙_, ap}
@@ -10,7 +10,7 @@ use native.Mathlib.Omega.{arith}
 use borrow.Author.Tests.{eqb-true, leb-true, le-leb, lt-leb, eq-eqb, ne-eqb}
 use lib.Dec.{leb, eqb}
 use lib.ListN.{length}
-use Rattle.tables.proofs.Cases.{le-or-lt, and-left, and-right}
+use Rattle.tables.proofs.Cases.{le-or-lt}
 use Rattle.tables.proofs.Least.{all-each, each-all}
 use Rattle.tables.specs.Sets.{byte}
 use Rattle.tables.specs.Tables.{order}
@@ -27,7 +27,7 @@ module _ (f : ℕ → ℕ) (N : ℕ) (w : List ℕ) where
   unfolding occurs
   occurs-agrees b e g l =
       sym (eqb-true _ _
-      (all-each (length w) 0 (λ j. eqb (f (b + j)) (byte w j)) (and-right (leb (b + length w) N) _ e) g (omega arith) (omega arith)))
+      (all-each (length w) 0 (λ j. eqb (f (b + j)) (byte w j)) (and-eq-true-iff (leb (b + length w) N) _ .0 e .1) g (omega arith) (omega arith)))
 
   pub agrees-occurs : (b : ℕ) → b + length w ≤ N → ((g : ℕ) → g < length w → Agrees f w b g) → occurs f N w b ≡ true
   unfolding occurs
@@ -35,9 +35,9 @@ module _ (f : ℕ → ℕ) (N : ℕ) (w : List ℕ) where
       rw (le-leb _ _ l)
       (each-all (length w) 0 (λ j. eqb (f (b + j)) (byte w j)) (λ g i u. eq-eqb _ _ (sym (each g (omega arith)))))
 
-  occurs-inside : (b : ℕ) → occurs f N w b ≡ true → b + length w ≤ N
+  pub occurs-inside : (b : ℕ) → occurs f N w b ≡ true → b + length w ≤ N
   unfolding occurs
-  occurs-inside b e = leb-true (b + length w) N (and-left (leb (b + length w) N) _ e)
+  occurs-inside b e = leb-true (b + length w) N (and-eq-true-iff (leb (b + length w) N) _ .0 e .0)
 
   occurs-not : (b : ℕ) → (((g : ℕ) → g < length w → Agrees f w b g) → ⊥) → occurs f N w b ≡ false
   occurs-not b miss = go (occurs f N w b) refl

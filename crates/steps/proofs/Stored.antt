@@ -6,7 +6,7 @@ use Prim.Native.Nat.{ℕ, zero, suc, _+_, _*_, _-_, _≤_, _<_}
 use native.Mathlib.Nat.{add-zero, mod-eq-of-lt, div-eq-of-lt, mul-add-mod-self-right, mul-add-div-right, mul-le-mul-right, suc-mul}
 use native.Mathlib.Omega.{arith}
 use lib.IntN.{pos, negsuc}
-use lib.ListN.{length, getD, take, length-take, length-map}
+use lib.ListN.{length, getD, length-take, length-map}
 use lib.Seq.{getD-take, getD-at}
 use Rattle.tables.proofs.Groups.{later-below, stored-later}
 use Rattle.tables.proofs.Stored.{stored-entry}

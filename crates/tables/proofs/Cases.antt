@@ -1,4 +1,4 @@
--- Cases on two numbers, and what a conjunction of two tests tells.
+-- Cases on two numbers, and on two tests that do not both hold.
 -- By the tests of the numbers, and by cases on the first test.
 use mathlib.Core.Bool.{Bool, true, false, _&&_, true≢false}
 use mathlib.Core.Logic.{_≢_, _⊎_, inl, inr}
@@ -24,14 +24,6 @@ eq-or-ne a b = go (eqb a b) refl
 -- no test is both true and false
 pub clash : (t : Bool) → t ≡ true → t ≡ false → ⊥
 clash t p q = true≢false (sym p ∙ q)
-
-pub and-left : (a b : Bool) → a && b ≡ true → a ≡ true
-and-left true b e = refl
-and-left false b e = e
-
-pub and-right : (a b : Bool) → a && b ≡ true → b ≡ true
-and-right true b e = e
-and-right false b e = absurd (clash false e refl)
 
 pub and-fails : (a b : Bool) → a && b ≡ false → (a ≡ false) ⊎ (b ≡ false)
 and-fails true b e = inr e

@@ -1,15 +1,15 @@
--- The laws of Δ1: its value, and that the value is unique.
+-- The law of Δ1: what its value is.
 -- m is outside both sets, so the least number that passes Δ1's test does; each smaller one is in one of the two sets.
-use mathlib.Core.Bool.{Bool, true, false, _&&_}
+use mathlib.Core.Bool.{Bool, true, false, _&&_, and-eq-true-iff}
 use mathlib.Core.List.{List}
 use mathlib.Core.Logic.{inl, inr, ⊎-elim}
 use mathlib.Core.Path.{_≡_, sym, _∙_}
-use Prim.Native.Nat.{ℕ, _+_, _-_, _≤_, _<_}
+use Prim.Native.Nat.{ℕ, _+_, _-_, _≤_}
 use native.Mathlib.Omega.{arith}
 use borrow.Author.Tests.{lt-ltb, le-ltb}
 use lib.IntN.{pos, subℕ}
 use lib.ListN.{length}
-use Rattle.tables.proofs.Cases.{le-or-lt, clash, and-left, and-right, and-fails}
+use Rattle.tables.proofs.Cases.{le-or-lt, clash, and-fails}
 use Rattle.tables.proofs.Least.{least-facts, least-found, outside-iff, outside-fails, outside-empty}
 use Rattle.tables.specs.Facts.{In-neg, First-shift}
 use Rattle.tables.specs.Sets.{byte, outside, Neg}
@@ -66,17 +66,9 @@ unfolding Δ1
     record {
       positive = value .low;
       within = within;
-      outside-last = λ g e. outside-iff w (byte w g) g k .0 (sym (at-last w s k g e) ∙ and-left (keeps-last w s k) (keeps-seen w c k) both);
-      outside-seen = λ g e. outside-iff w c g k .0 (sym (at-seen w c k g e) ∙ and-right (keeps-last w s k) (keeps-seen w c k) both);
+      outside-last = λ g e. outside-iff w (byte w g) g k .0 (sym (at-last w s k g e) ∙ and-eq-true-iff (keeps-last w s k) _ .0 both .0);
+      outside-seen = λ g e. outside-iff w c g k .0 (sym (at-seen w c k g e) ∙ and-eq-true-iff (keeps-last w s k) _ .0 both .1);
       least = λ j a b.
           ⊎-elim (λ e. inl (fails-last w s j e)) (λ e. inr (m - 1, omega arith, outside-fails w c (m - 1) j e))
           (and-fails (keeps-last w s j) (keeps-seen w c j) (value .before j a b));
     }
-
--- a number that meets the facts is not below another
-not-below : (w : List ℕ) (c s k k' : ℕ) → First-shift w c s k → First-shift w c s k' → ¬ (k < k')
-not-below w c s k k' r r' b =
-    ⊎-elim (λ (g, e, i). i .1 (r .outside-last g e (i .0))) (λ (g, e, i). i .1 (r .outside-seen g e (i .0))) (r' .least k (r .positive) b)
-
-pub first-shift-unique : (w : List ℕ) (c s k k' : ℕ) → First-shift w c s k → First-shift w c s k' → k ≡ k'
-first-shift-unique w c s k k' r r' = omega (arith, not-below w c s k k' r r', not-below w c s k' k r' r)

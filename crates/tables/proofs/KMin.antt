@@ -1,6 +1,6 @@
 -- The laws of k_min: it is 0 where no k has h_min(k) = h at or above k, else the least such k; and both are unique.
 -- The least number that passes k_min's test is at most m just where one passes. The least of those above k comes from that above k + 1.
-use mathlib.Core.Bool.{Bool, true, false, _&&_, cond}
+use mathlib.Core.Bool.{Bool, true, false, _&&_, cond, and-eq-true-iff}
 use mathlib.Core.List.{List}
 use mathlib.Core.Logic.{_≢_, _⊎_, inl, inr, ⊎-elim}
 use mathlib.Core.Path.{_≡_, refl, sym, _∙_}
@@ -10,7 +10,7 @@ use native.Mathlib.Omega.{arith}
 use borrow.Author.Tests.{leb-true, leb-false, eqb-true, eqb-false}
 use lib.Dec.{leb, eqb}
 use lib.ListN.{length}
-use Rattle.tables.proofs.Cases.{and-left, and-right, and-fails}
+use Rattle.tables.proofs.Cases.{and-fails}
 use Rattle.tables.proofs.HMin.{h-min-facts}
 use Rattle.tables.proofs.Least.{Least, least-facts}
 use Rattle.tables.specs.Facts.{H-min, K-min, No-k-min}
@@ -42,11 +42,11 @@ k-min-cases w h b = go (leb v (length w)) refl
     go true e =
         let u = leb-true v (length w) e in
         let passes = value .passes (omega arith) in
-        let within = leb-true v h (and-right (eqb (h-min w v) h) (leb v h) passes) in
+        let within = leb-true v h (and-eq-true-iff (eqb (h-min w v) h) _ .0 passes .1) in
         inr (record {
           positive = value .low;
           within = within;
-          value = eqb-true _ _ (and-left (eqb (h-min w v) h) (leb v h) passes);
+          value = eqb-true _ _ (and-eq-true-iff (eqb (h-min w v) h) _ .0 passes .0);
           least = λ j l u. before w h v value j l u (omega arith);
         })
     go false e = inl (refl, λ k l u. before w h v value k l (omega (arith, leb-false v (length w) e)) u)

@@ -1,13 +1,13 @@
 -- Laws of the least number that passes, of a run that passes, and of Pos and Neg, as propositions: after them no proof unfolds these.
 -- The runs by induction on their length; the sets by their tests.
-use mathlib.Core.Bool.{Bool, true, false, not, cond, true≢false}
+use mathlib.Core.Bool.{Bool, true, false, not, cond, true≢false, and-eq-true-iff}
 use mathlib.Core.List.{List}
 use mathlib.Core.Logic.{_↔_, ⊎-elim}
 use mathlib.Core.Path.{_≡_, refl, subst}
 use Prim.Native.Nat.{ℕ, zero, suc, _+_, _-_, _≤_, _<_}
 use native.Mathlib.Nat.{eq-or-lt-of-le}
 use native.Mathlib.Omega.{arith}
-use Rattle.tables.proofs.Cases.{eq-or-ne, clash, and-left, and-right, and-fails}
+use Rattle.tables.proofs.Cases.{eq-or-ne, clash, and-fails}
 use borrow.Author.Tests.{leb-true, eqb-true, eqb-false, le-leb, eq-eqb, ne-eqb, not-true, not-false}
 use lib.Dec.{leb, eqb}
 use lib.IntN.{pos, negsuc}
@@ -51,8 +51,8 @@ unfolding all-from
 all-each zero i f e k l h = absurd (omega arith)
 all-each (suc n) i f e k l h =
     ⊎-elim
-    (λ q. subst (λ (x : ℕ). f x ≡ true) q (and-left (f i) (all-from n (suc i) f) e))
-    (λ g. all-each n (suc i) f (and-right (f i) (all-from n (suc i) f) e) k g (omega arith))
+    (λ q. subst (λ (x : ℕ). f x ≡ true) q (and-eq-true-iff (f i) _ .0 e .0))
+    (λ g. all-each n (suc i) f (and-eq-true-iff (f i) _ .0 e .1) k g (omega arith))
     (eq-or-lt-of-le l)
 
 pub each-all : (n i : ℕ) (f : ℕ → Bool) → ((k : ℕ) → i ≤ k → k < i + n → f k ≡ true) → all-from n i f ≡ true
@@ -75,7 +75,7 @@ pub pos-iff : (w : List ℕ) (c i k : ℕ) → (Pos w c (pos i) k ≡ true) ↔ 
 unfolding Pos
 pos-iff w c i k =
     let same = eqb (byte w (i - k)) c in (
-      λ e. (leb-true k i (and-left (leb k i) same e), eqb-true _ _ (and-right (leb k i) same e)),
+      λ e. (leb-true k i (and-eq-true-iff (leb k i) same .0 e .0), eqb-true _ _ (and-eq-true-iff (leb k i) same .0 e .1)),
       λ h. simp (le-leb k i (h .0), eq-eqb (byte w (i - k)) c (h .1)),
     )
 
@@ -83,7 +83,7 @@ pub neg-iff : (w : List ℕ) (c i k : ℕ) → (Neg w c (pos i) k ≡ true) ↔ 
 unfolding Neg
 neg-iff w c i k =
     let different = not (eqb (byte w (i - k)) c) in (
-      λ e. (leb-true k i (and-left (leb k i) different e), eqb-false _ _ (not-true _ (and-right (leb k i) different e))),
+      λ e. (leb-true k i (and-eq-true-iff (leb k i) _ .0 e .0), eqb-false _ _ (not-true _ (and-eq-true-iff (leb k i) different .0 e .1))),
       λ h. simp (le-leb k i (h .0), ne-eqb (byte w (i - k)) c (h .1)),
     )
 

@@ -1,6 +1,6 @@
 -- The order has each position once: its two groups as runs of numbers with entries, and the sizes of the tables that are stored.
 -- The second group's entry at k is the h below m - 1 with k_min(h) = k; the third group's at h is h itself, where k_min(h) is 0.
-use mathlib.Core.Bool.{Bool, true, false, _&&_, cond}
+use mathlib.Core.Bool.{Bool, true, false, _&&_, cond, and-eq-true-iff}
 use mathlib.Core.List.{List, _∷_}
 use mathlib.Core.Logic.{_≢_, ⊎-elim}
 use mathlib.Core.Path.{_≡_, refl, sym, _∙_, ap}
@@ -10,7 +10,7 @@ use native.Mathlib.Omega.{arith}
 use borrow.Author.Tests.{ltb-true, eqb-true, eqb-false, lt-ltb, eq-eqb}
 use lib.Dec.{ltb, eqb}
 use lib.ListN.{length, length-append, length-map}
-use Rattle.tables.proofs.Cases.{clash, and-left, and-right}
+use Rattle.tables.proofs.Cases.{clash}
 use Rattle.tables.proofs.KMin.{k-min-cases, k-min-unique, no-k-min-unique, k-min-same}
 use Rattle.tables.proofs.Periods.{period-facts, k-min-below-period}
 use Rattle.tables.proofs.Runs.{Run, end, entry, none, run-never, run-once, run-length}
@@ -37,8 +37,9 @@ in-second w k = ltb (h-min w k) (length w - 1) && eqb (k-min w (h-min w k)) k
 passes-second : (w : List ℕ) (k : ℕ) → 1 ≤ k → in-second w k ≡ true → Second w k (h-min w k)
 passes-second w k l e =
     let h = h-min w k in
-    let below = ltb-true h (length w - 1) (and-left (ltb h (length w - 1)) (eqb (k-min w h) k) e) in
-    let at-k = eqb-true (k-min w h) k (and-right (ltb h (length w - 1)) (eqb (k-min w h) k) e) in
+    let both = and-eq-true-iff (ltb h (length w - 1)) (eqb (k-min w h) k) .0 e in
+    let below = ltb-true h (length w - 1) (both .0) in
+    let at-k = eqb-true (k-min w h) k (both .1) in
     record {
       below = omega arith;
       value = ⊎-elim (λ c. absurd (omega (arith, c .0))) (λ r. rw at-k at r) (k-min-cases w h (omega arith));

@@ -36,45 +36,6 @@ at-end c =
     let sum = end-entry w (byte w i) i end (loop .table) (λ x. loop .inv .4 .ends (byte w i) x byte-fits) (omega arith) (omega arith) in
     (byte-fits, omega arith, sum)
 
-loop-holds : tie.Need-loop-holds Inv-loop μ-loop
-loop-holds c = (omega arith, refl, refl, λ i h. absurd (omega arith), c .pre .1)
-
-cast-end : tie.Need-cast-end Inv-loop μ-loop
-cast-end c = omega (arith, at-end c)
-
-mul-end : tie.Need-mul-end Inv-loop μ-loop
-mul-end c = omega (arith, at-end c)
-
-add-end : tie.Need-add-end Inv-loop μ-loop
-add-end c = omega (arith, at-end c)
-
-sub-end : tie.Need-sub-end Inv-loop μ-loop
-sub-end c = omega (arith, at-end c)
-
-mul-last : tie.Need-mul-last Inv-loop μ-loop
-mul-last c = omega (arith, at-end c)
-
-slice-read-last : tie.Need-slice-read-last Inv-loop μ-loop
-slice-read-last c = omega (arith, at-end (c .before))
-
-cast-last : tie.Need-cast-last Inv-loop μ-loop
-cast-last c = omega (arith, at-end (c .before))
-
-sub-last : tie.Need-sub-last Inv-loop μ-loop
-sub-last c = omega (arith, at-end (c .before))
-
-cast-last-2 : tie.Need-cast-last-2 Inv-loop μ-loop
-cast-last-2 c = omega (arith, at-end (c .before))
-
-slice-write-last : tie.Need-slice-write-last Inv-loop μ-loop
-slice-write-last c = omega (arith, at-end (c .before))
-
-mul-table : tie.Need-mul-table Inv-loop μ-loop
-mul-table c = omega (arith, at-end (c .before))
-
-slice-write-table : tie.Need-slice-write-table Inv-loop μ-loop
-slice-write-table c = omega (arith, at-end (c .before))
-
 loop-again : tie.Need-loop-again Inv-loop μ-loop
 loop-again c =
     let at = c .before .before .before .loop in
@@ -102,24 +63,24 @@ link-spec =
     Inv-loop
     μ-loop
     (λ c. omega arith)
-    loop-holds
+    (λ c. (omega arith, refl, refl, λ i h. absurd (omega arith), c .pre .1))
     (λ c. omega arith)
-    cast-end
-    mul-end
-    add-end
-    sub-end
-    mul-last
-    slice-read-last
-    cast-last
-    sub-last
-    cast-last-2
+    (λ c. omega (arith, at-end c))
+    (λ c. omega (arith, at-end c))
+    (λ c. omega (arith, at-end c))
+    (λ c. omega (arith, at-end c))
+    (λ c. omega (arith, at-end c))
+    (λ c. omega (arith, at-end (c .before)))
+    (λ c. omega (arith, at-end (c .before)))
+    (λ c. omega (arith, at-end (c .before)))
+    (λ c. omega (arith, at-end (c .before)))
     (λ c. omega arith)
-    slice-write-last
+    (λ c. omega (arith, at-end (c .before)))
     (λ c. omega arith)
     (λ c. omega arith)
     (λ c. omega arith)
-    mul-table
-    slice-write-table
+    (λ c. omega (arith, at-end (c .before)))
+    (λ c. omega (arith, at-end (c .before)))
     (λ c. omega arith)
     (λ c. omega arith)
     loop-again

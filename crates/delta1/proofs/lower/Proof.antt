@@ -3,11 +3,10 @@
 use Prim.Native.Nat.{_≤_, _-_}
 use mathlib.Core.Bool.{true}
 use mathlib.Core.Logic.{⊎-elim}
-use mathlib.Core.Path.{_≡_}
 use native.Mathlib.Omega.{arith}
 use borrow.Author.Tests.{lt-ltb, le-ltb}
 use lib.ListN.{length}
-use Rattle.delta1.proofs.Changed.{changed-none, changed-more}
+use Rattle.delta1.proofs.Changed.{changed-none, changed-more, changed-all}
 use Rattle.delta1.specs.Rows.{Changed, lowered-if}
 use Rattle.delta1.proofs.lower.Statement.{statement}
 use Rattle.delta1.proofs.lower.Tie as tie
@@ -18,9 +17,6 @@ Inv-loop shift row₀ i₀ i-end row i = (i ≤ length row₀) × Changed (λ i 
 abbrev μ-loop : tie.MeasureT-loop
 μ-loop shift row₀ i₀ i-end row i = length row₀ - i
 
-loop-holds : tie.Need-loop-holds Inv-loop μ-loop
-loop-holds c = (omega arith, changed-none _ _)
-
 loop-again : tie.Need-loop-again Inv-loop μ-loop
 loop-again c =
     let at = c .before .before .before .loop in (
@@ -29,18 +25,13 @@ loop-again c =
           (⊎-elim (λ (t, e). rw (e, lt-ltb _ _ (t .taken))) (λ (t, e). rw (e, le-ltb _ _ (t .left))) (c .if1 .came)),
     )
 
-returns : tie.Need-returns Inv-loop μ-loop
-returns c =
-    let done : c .before .loop .i ≡ length (c .before .before .args .row .now) = omega arith in
-    rw done at (c .before .loop .inv .1)
-
 pub lower-spec : {M : Type 1} → statement M
 lower-spec =
     tie.close
     (tie.spec
     Inv-loop
     μ-loop
-    loop-holds
+    (λ c. (omega arith, changed-none _ _))
     (λ c. omega arith)
     (λ c. omega arith)
     (λ c. omega arith)
@@ -49,4 +40,4 @@ lower-spec =
     (λ c. omega arith)
     loop-again
     (λ c. omega arith)
-    returns)
+    (λ c. changed-all _ (c .before .loop .inv .1) (omega arith)))

@@ -3,9 +3,8 @@
 use Prim.Native.Nat.{ℕ, _+_, _-_, _≤_, _<_}
 use mathlib.Core.Bool.{Bool, true}
 use mathlib.Core.List.{List}
-use mathlib.Core.Path.{_≡_, refl, _∙_, ap}
+use mathlib.Core.Path.{_≡_, refl, ap}
 use native.Mathlib.Omega.{arith}
-use borrow.Author.Needs.{needs}
 use borrow.Author.Tests.{le-leb, lt-leb}
 use borrow.Rule.Slice.PartMut.{midOf}
 use lib.ListN.{length, take, length-take}
@@ -23,12 +22,6 @@ abbrev others : (v row : List ℕ) (s : ℕ) → List ℕ
 others v row s = midOf (s + 1) (length row - (s + 1)) v
 
 module _ (v row : List ℕ) (s n : ℕ) (within : n + s + 1 ≡ length row) (room : length row ≤ length v) where
-  bytes-length : length (bytes v n) ≡ n
-  bytes-length = part-length 1 (n + 1 - 1) v (omega arith) ∙ omega arith
-
-  others-length : length (others v row s) ≡ n
-  others-length = part-length (s + 1) (length row - (s + 1)) v (omega arith) ∙ omega arith
-
   front-test : (i : ℕ) → i < n → equal-at (bytes v n) (others v row s) i ≡ allows v (length row) s (i + 1)
   front-test i h =
       let one-on : 1 + i ≡ i + 1 = omega arith in
@@ -44,9 +37,6 @@ module _ (v row : List ℕ) (s n : ℕ) (within : n + s + 1 ≡ length row) (roo
   past-test : (i : ℕ) → true ≡ allows v (length row) s (n + i + 1)
   past-test i = rw (le-leb (length row) (n + i + 1 + s) (omega arith))
 
-slice-aggregate-lower-where-equal : tie.Need-slice-aggregate-lower-where-equal
-slice-aggregate-lower-where-equal c = simp length-take (omega arith)
-
 lower-where-equal-requires : tie.Need-lower-where-equal-requires
 lower-where-equal-requires c κs =
     let a = c .before .before .before .before .before .args in
@@ -54,8 +44,8 @@ lower-where-equal-requires c κs =
     let row = a .row .now in
     let n = length row - a .shift - 1 in
     let lent : length (take n row) ≡ n = length-take-le n row (omega arith) in
-    let first = bytes-length v row (a .shift) n (omega arith) (omega arith) in
-    let second = others-length v row (a .shift) n (omega arith) (omega arith) in
+    let first = part-length 1 (n + 1 - 1) v (omega arith) in
+    let second = part-length (a .shift + 1) (length row - (a .shift + 1)) v (omega arith) in
     (omega arith, omega arith)
 
 returns : tie.Need-returns
@@ -77,25 +67,25 @@ pub lower-row-spec : {M : Type 1} → statement M
 lower-row-spec =
     tie.close
     (tie.spec
-    (λ c. search needs)
-    (λ c. search needs)
-    (λ c. search needs)
-    (λ c. search needs)
-    (λ c. search needs)
-    (λ c. search needs)
-    (λ c. search needs)
-    (λ c. search needs)
-    (λ c. search needs)
-    (λ c. search needs)
-    (λ c. search needs)
-    (λ c. search needs)
-    slice-aggregate-lower-where-equal
+    (λ c. omega arith)
+    (λ c. omega arith)
+    (λ c. omega arith)
+    (λ c. omega arith)
+    (λ c. omega arith)
+    (λ c. omega arith)
+    (λ c. omega arith)
+    (λ c. omega arith)
+    (λ c. omega arith)
+    (λ c. omega arith)
+    (λ c. omega arith)
+    (λ c. omega arith)
+    (λ c. simp length-take (omega arith))
     lower-where-equal-requires
-    (λ c. search needs)
-    (λ c. search needs)
-    (λ c. search needs)
-    (λ c. search needs)
-    (λ c. search needs)
-    (λ c κs. search needs)
-    (λ c. search needs)
+    (λ c. omega arith)
+    (λ c. omega arith)
+    (λ c. omega arith)
+    (λ c. omega arith)
+    (λ c. omega arith)
+    (λ c κs. omega arith)
+    (λ c. omega arith)
     returns)

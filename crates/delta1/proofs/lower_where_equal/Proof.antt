@@ -2,11 +2,10 @@
 -- Assumes nothing.
 use Prim.Native.Nat.{_≤_, _-_}
 use mathlib.Core.Logic.{⊎-elim}
-use mathlib.Core.Path.{_≡_}
 use native.Mathlib.Omega.{arith}
 use borrow.Author.Tests.{eq-eqb, ne-eqb}
 use lib.ListN.{length}
-use Rattle.delta1.proofs.Changed.{changed-none, changed-more}
+use Rattle.delta1.proofs.Changed.{changed-none, changed-more, changed-all}
 use Rattle.delta1.specs.Rows.{Changed, lowered-if, equal-at}
 use Rattle.delta1.proofs.lower_where_equal.Statement.{statement}
 use Rattle.delta1.proofs.lower_where_equal.Tie as tie
@@ -16,9 +15,6 @@ Inv-loop bytes others shift row₀ i₀ i-end row i = (i ≤ length row₀) × C
 
 abbrev μ-loop : tie.MeasureT-loop
 μ-loop bytes others shift row₀ i₀ i-end row i = length row₀ - i
-
-loop-holds : tie.Need-loop-holds Inv-loop μ-loop
-loop-holds c = (omega arith, changed-none _ _)
 
 loop-again : tie.Need-loop-again Inv-loop μ-loop
 loop-again c =
@@ -31,18 +27,13 @@ loop-again c =
           (c .if1 .came)),
     )
 
-returns : tie.Need-returns Inv-loop μ-loop
-returns c =
-    let done : c .before .loop .i ≡ length (c .before .before .args .row .now) = omega arith in
-    rw done at (c .before .loop .inv .1)
-
 pub lower-where-equal-spec : {M : Type 1} → statement M
 lower-where-equal-spec =
     tie.close
     (tie.spec
     Inv-loop
     μ-loop
-    loop-holds
+    (λ c. (omega arith, changed-none _ _))
     (λ c. omega arith)
     (λ c. omega arith)
     (λ c. omega arith)
@@ -53,4 +44,4 @@ lower-where-equal-spec =
     (λ c. omega arith)
     loop-again
     (λ c. omega arith)
-    returns)
+    (λ c. changed-all _ (c .before .loop .inv .1) (omega arith)))

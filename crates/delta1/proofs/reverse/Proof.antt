@@ -17,12 +17,6 @@ Inv-loop pattern reversed₀ m i₀ reversed i =
 abbrev μ-loop : tie.MeasureT-loop
 μ-loop pattern reversed₀ m i₀ reversed i = length pattern - i
 
-loop-holds : tie.Need-loop-holds Inv-loop μ-loop
-loop-holds c = (omega arith, changed-none _ _)
-
-loop-again : tie.Need-loop-again Inv-loop μ-loop
-loop-again c = (omega arith, changed-more _ _ _ (c .before .before .loop .inv .1) (omega arith) refl)
-
 returns : tie.Need-returns Inv-loop μ-loop
 returns c x i e =
     let m = length (c .before .before .args .pattern .now) in
@@ -35,13 +29,13 @@ reverse-spec =
     (tie.spec
     Inv-loop
     μ-loop
-    loop-holds
+    (λ c. (omega arith, changed-none _ _))
     (λ c. omega arith)
     (λ c. omega arith)
     (λ c. omega arith)
     (λ c. omega arith)
     (λ c. omega arith)
     (λ c. omega arith)
-    loop-again
+    (λ c. (omega arith, changed-more _ _ _ (c .before .before .loop .inv .1) (omega arith) refl))
     (λ c. omega arith)
     returns)

@@ -8,12 +8,6 @@ use borrow.Author.Needs.{needs}
 use Rattle.delta1.proofs.write_delta1.Statement.{statement}
 use Rattle.delta1.proofs.write_delta1.Tie as tie
 
-slice-aggregate-write-table : tie.Need-slice-aggregate-write-table
-slice-aggregate-write-table c = simp length-take (omega arith)
-
-write-table-requires : tie.Need-write-table-requires
-write-table-requires c κs = simp length-take (omega arith)
-
 returns : tie.Need-returns
 unfolding in-front
 returns c = rw (c .before .before .write-table .ensures, stored-Δ1-length)
@@ -24,7 +18,7 @@ write-delta1-spec =
     (tie.spec
     (λ c. search needs)
     (λ c. search needs)
-    slice-aggregate-write-table
-    write-table-requires
+    (λ c. simp length-take (omega arith))
+    (λ c κs. simp length-take (omega arith))
     (λ c. search needs)
     returns)

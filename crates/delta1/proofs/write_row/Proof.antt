@@ -38,12 +38,6 @@ loop-holds c =
     let start = c .before .before .before .before in
     row-first _ _ _ _ (start .pre .within) (start .pre .entries) (start .pre .is-last) (start .pre .begun)
 
-cast-at : tie.Need-cast-at Inv-loop μ-loop
-cast-at c = omega (arith, next-link c)
-
-loop-less : tie.Need-loop-less Inv-loop μ-loop
-loop-less c = omega (arith, next-link c)
-
 loop-again : tie.Need-loop-again Inv-loop μ-loop
 loop-again c =
     let start = c .before .before .before .before .before .before .before .before .before .before .before in
@@ -54,11 +48,6 @@ loop-again c =
     (omega arith)
     (loop .inv)
     (c .before .before .before .lower-row .ensures))
-
-returns : tie.Need-returns Inv-loop μ-loop
-returns c =
-    let done : c .before .loop .at ≡ 0 = omega arith in
-    row-right _ _ _ (rw done at (c .before .loop .inv))
 
 pub write-row-spec : {M : Type 1} → statement M
 write-row-spec =
@@ -71,8 +60,8 @@ write-row-spec =
     (λ c. omega arith)
     (λ c κs. omega arith)
     (λ c. omega arith)
-    cast-at
-    loop-less
+    (λ c. omega (arith, next-link c))
+    (λ c. omega (arith, next-link c))
     loop-again
     (λ c. omega arith)
-    returns)
+    (λ c. let done : c .before .loop .at ≡ 0 = omega arith in row-right _ _ _ (rw done at (c .before .loop .inv))))

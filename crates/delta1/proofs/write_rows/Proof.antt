@@ -34,40 +34,10 @@ loop-holds c =
     let start = c .before .before .before .before in
     (omega arith, table-first _ _ (start .pre .sizes .entries) (start .pre .ends))
 
-cast-start : tie.Need-cast-start Inv-loop μ-loop
-cast-start c = omega (arith, row-within c)
-
-mul-start : tie.Need-mul-start Inv-loop μ-loop
-mul-start c = omega (arith, row-within c)
-
-add-end : tie.Need-add-end Inv-loop μ-loop
-add-end c = omega (arith, row-within c)
-
-sub-if1 : tie.Need-sub-if1 Inv-loop μ-loop
-sub-if1 c = omega (arith, row-within c)
-
-mul-if1 : tie.Need-mul-if1 Inv-loop μ-loop
-mul-if1 c = omega (arith, row-within c)
-
-slice-read-if1 : tie.Need-slice-read-if1 Inv-loop μ-loop
-slice-read-if1 c = omega (arith, row-within (c .before))
-
 cast-if1 : tie.Need-cast-if1 Inv-loop μ-loop
 cast-if1 c =
     let w = c .before .before .before .before .before .before .before .before .args .pattern .now in
     omega (arith, c .slice-known2 .given (byte w (c .before .before .before .loop .i) * length w + length w - 1))
-
-mul-write-row : tie.Need-mul-write-row Inv-loop μ-loop
-mul-write-row c = omega (arith, row-within (c .before .before))
-
-sub-write-row : tie.Need-sub-write-row Inv-loop μ-loop
-sub-write-row c = omega (arith, row-within (c .before .before))
-
-part-write-row-start : tie.Need-part-write-row-start Inv-loop μ-loop
-part-write-row-start c = omega (arith, row-within (c .before .before))
-
-part-write-row-end : tie.Need-part-write-row-end Inv-loop μ-loop
-part-write-row-end c = omega (arith, row-within (c .before .before))
 
 write-row-requires : tie.Need-write-row-requires Inv-loop μ-loop
 write-row-requires c κs =
@@ -113,19 +83,19 @@ write-rows-spec =
     (λ c. omega arith)
     loop-holds
     (λ c. omega arith)
-    cast-start
-    mul-start
-    add-end
-    sub-if1
-    mul-if1
-    slice-read-if1
+    (λ c. omega (arith, row-within c))
+    (λ c. omega (arith, row-within c))
+    (λ c. omega (arith, row-within c))
+    (λ c. omega (arith, row-within c))
+    (λ c. omega (arith, row-within c))
+    (λ c. omega (arith, row-within (c .before)))
     cast-if1
     (λ c. omega arith)
     (λ c. omega arith)
-    mul-write-row
-    sub-write-row
-    part-write-row-start
-    part-write-row-end
+    (λ c. omega (arith, row-within (c .before .before)))
+    (λ c. omega (arith, row-within (c .before .before)))
+    (λ c. omega (arith, row-within (c .before .before)))
+    (λ c. omega (arith, row-within (c .before .before)))
     write-row-requires
     (λ c. omega arith)
     (λ c. omega arith)

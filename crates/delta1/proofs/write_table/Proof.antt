@@ -15,9 +15,6 @@ link-requires c κs =
       filled-ends w (done .last .0) (omega arith) (λ i h. done .ensures .changed i (omega arith)),
     )
 
-returns : tie.Need-returns
-returns c = right-stored _ _ (c .before .before .write-rows .ensures) (omega arith) (omega arith)
-
 pub write-table-spec : {M : Type 1} → statement M
 write-table-spec =
     tie.close
@@ -32,4 +29,4 @@ write-table-spec =
     (λ c. search needs)
     (λ c κs. search needs)
     (λ c. search needs)
-    returns)
+    (λ c. right-stored _ _ (c .before .before .write-rows .ensures) (omega arith) (omega arith)))

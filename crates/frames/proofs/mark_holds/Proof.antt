@@ -38,21 +38,6 @@ inside :
     getD (args .found .now) (at .loop .i) 0 + args .hold < length (args .frames .now)
 inside c = c .before .before .before .pre (c .before .before .loop .i) (omega arith)
 
-loop-holds : tie.Need-loop-holds Inv-loop μ-loop
-loop-holds c = (refl, refl)
-
-cast-frames : tie.Need-cast-frames Inv-loop μ-loop
-cast-frames c = omega (arith, c .shared-slice-known .given (c .before .before .loop .i))
-
-add-frames : tie.Need-add-frames Inv-loop μ-loop
-add-frames c = omega (arith, inside c)
-
-mul-frames-2 : tie.Need-mul-frames-2 Inv-loop μ-loop
-mul-frames-2 c = omega (arith, inside c)
-
-slice-write-frames : tie.Need-slice-write-frames Inv-loop μ-loop
-slice-write-frames c = omega (arith, inside c)
-
 loop-again : tie.Need-loop-again Inv-loop μ-loop
 loop-again c =
     let at = c .before .before in
@@ -60,9 +45,6 @@ loop-again c =
       simp length-set (omega arith),
       turn (args .hold) (at .loop .i) (args .found .now) (at .loop .frames) (omega arith) ∙ at .loop .inv .1,
     )
-
-same-length : tie.Need-same-length Inv-loop μ-loop
-same-length c = c .before .loop .inv .0
 
 returns : tie.Need-returns Inv-loop μ-loop
 returns c =
@@ -76,15 +58,15 @@ mark-holds-spec =
     (tie.spec
     Inv-loop
     μ-loop
-    loop-holds
+    (λ c. (refl, refl))
     (λ c. omega arith)
     (λ c. omega arith)
-    cast-frames
-    add-frames
-    mul-frames-2
-    slice-write-frames
+    (λ c. omega (arith, c .shared-slice-known .given (c .before .before .loop .i)))
+    (λ c. omega (arith, inside c))
+    (λ c. omega (arith, inside c))
+    (λ c. omega (arith, inside c))
     (λ c. omega arith)
     (λ c. omega arith)
     loop-again
-    same-length
+    (λ c. c .before .loop .inv .0)
     returns)

@@ -26,12 +26,6 @@ turn text frames₀ frames i h l e =
     rw (add-one, take-suc text i 0 h, e)
     (in-front-store (take i text) frames₀ i (getD text i 0) (length-take-le i text (omega arith)) (omega arith))
 
-loop-holds : tie.Need-loop-holds Inv-loop μ-loop
-loop-holds c = (refl, sym (in-front-own (c .args .frames .now) 0 (omega arith)))
-
-cast-frames : tie.Need-cast-frames Inv-loop μ-loop
-cast-frames c = omega (arith, c .shared-slice-known .given (c .before .before .loop .at))
-
 loop-again : tie.Need-loop-again Inv-loop μ-loop
 loop-again c =
     let turned = c .before .before in
@@ -39,9 +33,6 @@ loop-again c =
       simp length-set (omega arith),
       turn (args .text .now) (args .frames .now) (turned .loop .frames) (turned .loop .at) (omega arith) (omega arith) (turned .loop .inv .1),
     )
-
-same-length : tie.Need-same-length Inv-loop μ-loop
-same-length c = c .before .loop .inv .0
 
 returns : tie.Need-returns Inv-loop μ-loop
 returns c = rw (← take-all (c .before .loop .at) (c .before .before .args .text .now) (omega arith)) (c .before .loop .inv .1)
@@ -52,13 +43,13 @@ write-moves-spec =
     (tie.spec
     Inv-loop
     μ-loop
-    loop-holds
+    (λ c. (refl, sym (in-front-own (c .args .frames .now) 0 (omega arith))))
     (λ c. omega arith)
-    cast-frames
+    (λ c. omega (arith, c .shared-slice-known .given (c .before .before .loop .at)))
     (λ c. omega arith)
     (λ c. omega arith)
     (λ c. omega arith)
     (λ c. omega arith)
     loop-again
-    same-length
+    (λ c. c .before .loop .inv .0)
     returns)

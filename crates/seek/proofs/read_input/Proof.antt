@@ -14,12 +14,6 @@ Inv-loop buf₀ bytes₀ buf bytes = (bytes ≤ length buf) × (length buf ≡ l
 abbrev μ-loop : tie.MeasureT-loop
 μ-loop buf₀ bytes₀ buf bytes = length buf - bytes
 
-returns : tie.Need-returns Inv-loop μ-loop
-returns c = counts _ _ (omega arith)
-
-returns-2 : tie.Need-returns-2 Inv-loop μ-loop
-returns-2 c = counts _ _ (omega arith)
-
 pub read-input-spec : {M : Type 1} → statement M
 read-input-spec =
     tie.close
@@ -36,9 +30,9 @@ read-input-spec =
     (λ c. omega arith)
     (λ c κs. omega arith)
     (λ c. omega arith)
-    returns
+    (λ c. counts _ _ (omega arith))
     (λ c. omega arith)
     (λ c. omega arith)
     (λ c. omega arith)
     (λ c. omega arith)
-    returns-2)
+    (λ c. counts _ _ (omega arith)))

@@ -112,40 +112,10 @@ small c =
       omega (arith, running-length r v),
     )
 
-alignments-holds : tie.Need-alignments-holds Inv-loop μ-loop Inv-alignments μ-alignments
-alignments-holds c = running-first (c .before .before .before .before .before .pre)
-
-sub-rest : tie.Need-sub-rest Inv-loop μ-loop Inv-alignments μ-alignments
-sub-rest c = c .alignments .inv .inside
-
-part-rest-start : tie.Need-part-rest-start Inv-loop μ-loop Inv-alignments μ-alignments
-part-rest-start c = c .alignments .inv .inside
-
-loop-holds : tie.Need-loop-holds Inv-loop μ-loop Inv-alignments μ-alignments
-loop-holds c = comparing-first (ready (c .before)) (c .before .alignments .b)
-
-mul-h : tie.Need-mul-h Inv-loop μ-loop Inv-alignments μ-alignments
-mul-h c = omega (arith, c .loop .inv .within, ready (c .before .before) .pattern)
-
-shared-slice-copy-out-h : tie.Need-shared-slice-copy-out-h Inv-loop μ-loop Inv-alignments μ-alignments
-shared-slice-copy-out-h c = in-buffer (ready (c .before .before)) (c .loop .inv)
-
 cast-at : tie.Need-cast-at Inv-loop μ-loop Inv-alignments μ-alignments
 cast-at c =
     let r = ready (alignment (c .before)) in
     (rw (is-position r (c .before .before .loop .inv) (c .if1 .left)) tt, omega (arith, inside c, r .pattern))
-
-shared-slice-read-if3 : tie.Need-shared-slice-read-if3 Inv-loop μ-loop Inv-alignments μ-alignments
-shared-slice-read-if3 c = inside (c .before .before)
-
-shared-slice-read-if3-2 : tie.Need-shared-slice-read-if3-2 Inv-loop μ-loop Inv-alignments μ-alignments
-shared-slice-read-if3-2 c = c .before .before .if2 .left
-
-add-i : tie.Need-add-i Inv-loop μ-loop Inv-alignments μ-alignments
-add-i c = let d = c .before .before .before .before in omega (arith, in-row d, ready (alignment (d .before)) .pattern)
-
-loop-less : tie.Need-loop-less Inv-loop μ-loop Inv-alignments μ-alignments
-loop-less c = omega (arith, in-row (c .before .before .before .before))
 
 loop-again : tie.Need-loop-again Inv-loop μ-loop Inv-alignments μ-alignments
 loop-again c =
@@ -167,41 +137,11 @@ shift-after-requires c κs =
       delta1-ready = ready a .delta1-ready;
     }
 
-add-b : tie.Need-add-b Inv-loop μ-loop Inv-alignments μ-alignments
-add-b c = omega (arith, small c)
-
-add-comparisons : tie.Need-add-comparisons Inv-loop μ-loop Inv-alignments μ-alignments
-add-comparisons c = omega (arith, small (c .before .before))
-
-add-comparisons-2 : tie.Need-add-comparisons-2 Inv-loop μ-loop Inv-alignments μ-alignments
-add-comparisons-2 c = omega (arith, small (c .before .before))
-
-alignments-less : tie.Need-alignments-less Inv-loop μ-loop Inv-alignments μ-alignments
-alignments-less c = omega (arith, small (c .before .before))
-
 alignments-again : tie.Need-alignments-again Inv-loop μ-loop Inv-alignments μ-alignments
 alignments-again c =
     let d = c .before .before in
     let a = alignment (d .before .before) in
     running-on (ready a) (a .alignments .inv) (ended (d .before)) (d .shift-after .ensures) (c .before .if4 .taken)
-
-add-comparisons-3 : tie.Need-add-comparisons-3 Inv-loop μ-loop Inv-alignments μ-alignments
-add-comparisons-3 c = omega (arith, small (c .before))
-
-cast-found : tie.Need-cast-found Inv-loop μ-loop Inv-alignments μ-alignments
-cast-found c = omega (arith, small (c .before))
-
-mul-found : tie.Need-mul-found Inv-loop μ-loop Inv-alignments μ-alignments
-mul-found c = omega (arith, small (c .before))
-
-slice-write-found : tie.Need-slice-write-found Inv-loop μ-loop Inv-alignments μ-alignments
-slice-write-found c = omega (arith, small (c .before))
-
-add-occurrences : tie.Need-add-occurrences Inv-loop μ-loop Inv-alignments μ-alignments
-add-occurrences c = omega (arith, small (c .before))
-
-alignments-less-2 : tie.Need-alignments-less-2 Inv-loop μ-loop Inv-alignments μ-alignments
-alignments-less-2 c = omega (arith, small (c .before))
 
 alignments-again-2 : tie.Need-alignments-again-2 Inv-loop μ-loop Inv-alignments μ-alignments
 alignments-again-2 c =
@@ -209,15 +149,6 @@ alignments-again-2 c =
     let a = alignment (d .before .before) in
     let e = ended (d .before) in
     running-listed (ready a) (a .alignments .inv) e (d .shift-after .ensures) (omega (arith, e .within, c .if4 .left))
-
-cast-t35 : tie.Need-cast-t35 Inv-loop μ-loop Inv-alignments μ-alignments
-cast-t35 c = let a = alignment (c .before .before) in omega (arith, a .alignments .inv, ready a .text)
-
-cast-t36 : tie.Need-cast-t36 Inv-loop μ-loop Inv-alignments μ-alignments
-cast-t36 c = let a = alignment (c .before .before) in omega (arith, a .alignments .inv, ready a .text)
-
-same-length : tie.Need-same-length Inv-loop μ-loop Inv-alignments μ-alignments
-same-length c = let a = alignment (c .before .before) in running-length (ready a) (a .alignments .inv)
 
 returns : tie.Need-returns Inv-loop μ-loop Inv-alignments μ-alignments
 returns c =
@@ -235,33 +166,33 @@ run-steps-spec =
     μ-loop
     Inv-alignments
     μ-alignments
-    alignments-holds
-    sub-rest
-    part-rest-start
+    (λ c. running-first (c .before .before .before .before .before .pre))
+    (λ c. c .alignments .inv .inside)
+    (λ c. c .alignments .inv .inside)
     (λ c. omega arith)
-    loop-holds
-    mul-h
-    shared-slice-copy-out-h
+    (λ c. comparing-first (ready (c .before)) (c .before .alignments .b))
+    (λ c. omega (arith, c .loop .inv .within, ready (c .before .before) .pattern))
+    (λ c. in-buffer (ready (c .before .before)) (c .loop .inv))
     cast-at
-    shared-slice-read-if3
-    shared-slice-read-if3-2
-    add-i
-    loop-less
+    (λ c. inside (c .before .before))
+    (λ c. c .before .before .if2 .left)
+    (λ c. let d = c .before .before .before .before in omega (arith, in-row d, ready (alignment (d .before)) .pattern))
+    (λ c. omega (arith, in-row (c .before .before .before .before)))
     loop-again
     shift-after-requires
-    add-b
-    add-comparisons
-    add-comparisons-2
-    alignments-less
+    (λ c. omega (arith, small c))
+    (λ c. omega (arith, small (c .before .before)))
+    (λ c. omega (arith, small (c .before .before)))
+    (λ c. omega (arith, small (c .before .before)))
     alignments-again
-    add-comparisons-3
-    cast-found
-    mul-found
-    slice-write-found
-    add-occurrences
-    alignments-less-2
+    (λ c. omega (arith, small (c .before)))
+    (λ c. omega (arith, small (c .before)))
+    (λ c. omega (arith, small (c .before)))
+    (λ c. omega (arith, small (c .before)))
+    (λ c. omega (arith, small (c .before)))
+    (λ c. omega (arith, small (c .before)))
     alignments-again-2
-    cast-t35
-    cast-t36
-    same-length
+    (λ c. let a = alignment (c .before .before) in omega (arith, a .alignments .inv, ready a .text))
+    (λ c. let a = alignment (c .before .before) in omega (arith, a .alignments .inv, ready a .text))
+    (λ c. let a = alignment (c .before .before) in running-length (ready a) (a .alignments .inv))
     returns)

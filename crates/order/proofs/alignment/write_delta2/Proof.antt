@@ -116,10 +116,6 @@ abbrev μ-loop : tie.MeasureT-loop
 loop-holds : tie.Need-loop-holds Inv-loop μ-loop
 loop-holds c = record { low = omega arith; high = omega arith; written = none-written 1 _ _ (simp length-set (omega arith)) }
 
-shared-slice-copy-out-h : tie.Need-shared-slice-copy-out-h Inv-loop μ-loop
-shared-slice-copy-out-h c =
-    omega (arith, order-room (c .before .before .pre .0))
-
 at-position :
     (c : tie.After-h Inv-loop μ-loop) →
     let s = c .before .before .before in
@@ -131,20 +127,11 @@ at-position c =
     let l : 1 ≤ c .before .before .loop .i = omega arith in
     (position s km rm _ l (omega arith), omega (arith, h-below s km rm _ l (omega arith)))
 
-cast-h : tie.Need-cast-h Inv-loop μ-loop
-cast-h c = rw (at-position c .0) (tt, omega (arith, at-position c .1))
-
 mul-k : tie.Need-mul-k Inv-loop μ-loop
 mul-k c = rw (at-position c .0) (omega (arith, at-position c .1))
 
 element-copy-out-k : tie.Need-element-copy-out-k Inv-loop μ-loop
 element-copy-out-k c = rw (at-position c .0) (omega (arith, at-position c .1))
-
-mul-delta2 : tie.Need-mul-delta2 Inv-loop μ-loop
-mul-delta2 c = mul-k (c .before .before)
-
-element-copy-out-delta2 : tie.Need-element-copy-out-delta2 Inv-loop μ-loop
-element-copy-out-delta2 c = element-copy-out-k (c .before .before)
 
 -- the buffer has its length
 kept :
@@ -153,9 +140,6 @@ kept c =
     let (s, (km, (rm, room))) = c .before .pre in
     same-size (s .taken) (c .loop .inv) (simp length-set (omega arith)) ∙ simp length-set
 
-slice-write-delta2-2 : tie.Need-slice-write-delta2-2 Inv-loop μ-loop
-slice-write-delta2-2 c = omega (arith, kept (c .before .before .before .before))
-
 loop-again : tie.Need-loop-again Inv-loop μ-loop
 loop-again c =
     let (s, (km, (rm, room))) = c .before .before .before .before .before .pre in
@@ -163,12 +147,6 @@ loop-again c =
     store (s .taken) r (simp length-set (omega arith)) _ (omega arith)
     (shift-is s km rm _ (r .low) (omega arith) _
     (⊎-elim (λ t. inl (t .0 .taken, t .1)) (λ t. inr (t .0 .left, t .2)) (c .if1 .came)))
-
-slice-write-delta2-3 : tie.Need-slice-write-delta2-3 Inv-loop μ-loop
-slice-write-delta2-3 c = omega (arith, kept (c .before .before))
-
-same-length : tie.Need-same-length Inv-loop μ-loop
-same-length c = simp length-set (kept (c .before .before))
 
 returns : tie.Need-returns Inv-loop μ-loop
 returns c =
@@ -187,19 +165,19 @@ write-delta2-spec =
     (λ c. omega arith)
     loop-holds
     (λ c. omega arith)
-    shared-slice-copy-out-h
-    cast-h
+    (λ c. omega (arith, order-room (c .before .before .pre .0)))
+    (λ c. rw (at-position c .0) (tt, omega (arith, at-position c .1)))
     mul-k
     element-copy-out-k
-    mul-delta2
-    element-copy-out-delta2
+    (λ c. mul-k (c .before .before))
+    (λ c. element-copy-out-k (c .before .before))
     (λ c. omega arith)
-    slice-write-delta2-2
+    (λ c. omega (arith, kept (c .before .before .before .before)))
     (λ c. omega arith)
     (λ c. omega arith)
     loop-again
     (λ c. omega arith)
     (λ c. omega arith)
-    slice-write-delta2-3
-    same-length
+    (λ c. omega (arith, kept (c .before .before)))
+    (λ c. simp length-set (kept (c .before .before)))
     returns)

@@ -46,11 +46,6 @@ sub-order c =
     let b : m < 2 ^ 15 = omega arith in
     rw predecessor (small-fits (m - 1) (omega arith))
 
-write-second-group-requires : tie.Need-write-second-group-requires
-write-second-group-requires c κs =
-    let p = c .before .before .pre in
-    (p .0, (p .1 .0, simp length-set (omega arith)))
-
 -- the buffer keeps its length over the calls
 second-kept :
     (c : tie.After-write-second-group) →
@@ -69,12 +64,6 @@ write-third-group-requires c κs =
     let r = c .before .before .write-second-group .ensures in
     (p .0 .taken, (p .1 .0, omega (arith, p, second-kept (c .before .before), r .after, groups-length (s .args .pattern .now) (p .0 .taken .some))))
 
-slice-set-of-order : tie.Need-slice-set-of-order
-slice-set-of-order c = omega (arith, third-kept (c .before), c .before .before .before .before .before .before .before .pre)
-
-same-length : tie.Need-same-length
-same-length c = simp length-set (third-kept (c .before))
-
 returns : tie.Need-returns
 returns c =
     let s = c .before .before .before .before .before .before .before in
@@ -92,9 +81,9 @@ write-order-spec =
     (λ c. search needs)
     sub-order
     (λ c. search needs)
-    write-second-group-requires
+    (λ c κs. let p = c .before .before .pre in (p .0, (p .1 .0, simp length-set (omega arith))))
     write-third-group-requires
     (λ c. search needs)
-    slice-set-of-order
-    same-length
+    (λ c. omega (arith, third-kept (c .before), c .before .before .before .before .before .before .before .pre))
+    (λ c. simp length-set (third-kept (c .before)))
     returns)

@@ -12,7 +12,7 @@ use lib.ListN.{length, getD, set, length-map}
 use lib.Signed.{ltZ}
 use mir.Syntax.{w16}
 use mir.Val.{toZ, ofZ}
-use Rattle.order.proofs.Entries.{entry, h-min-small, entry-back}
+use Rattle.order.proofs.Entries.{entry, Read, read}
 use Rattle.tables.proofs.Groups.{second-from, second-all, second-here, second-not-here, second-end}
 use Rattle.tables.proofs.HMin.{h-min-facts}
 use Rattle.tables.proofs.Order.{in-second, groups-length}
@@ -46,10 +46,7 @@ module _
 
   module _ (u : k ≤ length w) where
     h-back : toZ w16 (entry hs k) ≡ pos (h-min w k)
-    h-back = entry-back w (hm .taken) hs k (r .low) u (hm .entry k (r .low) u)
-
-    h-small : h-min w k < 128
-    h-small = h-min-small w (hm .taken) k (r .low) u
+    h-back = read hm k (r .low) u .0
 
     first-test : below-last w hs k ≡ ltb (h-min w k) (length w - 1)
     first-test =
@@ -79,9 +76,6 @@ Inv-loop pattern h-min k-min order₀ m last next₀ k₀ k-end order next k = B
 abbrev μ-loop : tie.MeasureT-loop
 μ-loop pattern h-min k-min order₀ m last next₀ k₀ k-end order next k = length pattern + 1 - k
 
-cast-last : tie.Need-cast-last Inv-loop μ-loop
-cast-last c = small-fits _ (omega arith)
-
 sub-last : tie.Need-sub-last Inv-loop μ-loop
 sub-last c =
     let m = length (c .args .pattern .now) in
@@ -95,22 +89,9 @@ loop-holds c = record { low = omega arith; high = omega arith; written = rw (sec
 -- the position that is read
 at-position :
     (c : tie.Then1 Inv-loop μ-loop) →
-    let s = c .before .before .before .before in
-    let k = c .before .before .before .loop .k in
-    (toZ w16 (entry (s .args .h-min .now) k) ≡ pos (h-min (s .args .pattern .now) k)) × (h-min (s .args .pattern .now) k < 128)
-at-position c =
-    let r = c .before .before .before .loop .inv in
-    let (hm, (km, room)) = c .before .before .before .before .pre in
-    (h-back hm km r room (omega arith), h-small hm km r room (omega arith))
-
-cast-if2 : tie.Need-cast-if2 Inv-loop μ-loop
-cast-if2 c = rw (at-position c .0) (tt, omega (arith, at-position c .1))
-
-mul-if2 : tie.Need-mul-if2 Inv-loop μ-loop
-mul-if2 c = rw (at-position c .0) (omega (arith, at-position c .1))
-
-element-copy-out-if2 : tie.Need-element-copy-out-if2 Inv-loop μ-loop
-element-copy-out-if2 c = rw (at-position c .0) (omega (arith, at-position c .1))
+    let args = c .before .before .before .before .args in
+    Read (args .pattern .now) (args .h-min .now) (c .before .before .before .loop .k)
+at-position c = read (c .before .before .before .before .pre .0) _ (omega arith) (omega arith)
 
 -- the entry that is written next
 next-in-buffer :
@@ -123,15 +104,6 @@ next-in-buffer c =
     let (hm, (km, room)) = s .pre in
     let passes = tests hm km r room (omega arith) (c .before .before .if1 .taken) (c .if2 .taken) in
     (in-buffer hm km r room (omega arith) passes, same-size hm km r room)
-
-mul-h-2 : tie.Need-mul-h-2 Inv-loop μ-loop
-mul-h-2 c = omega (arith, next-in-buffer c, c .before .before .before .before .before .before)
-
-slice-set-from-h : tie.Need-slice-set-from-h Inv-loop μ-loop
-slice-set-from-h c = next-in-buffer c .0
-
-add-next : tie.Need-add-next Inv-loop μ-loop
-add-next c = omega (arith, next-in-buffer c, c .before .before .before .before .before .before)
 
 loop-again : tie.Need-loop-again Inv-loop μ-loop
 loop-again c =
@@ -149,11 +121,6 @@ loop-again c =
     (t .0 .came))))
     (c .if1 .came)
 
-same-length : tie.Need-same-length Inv-loop μ-loop
-same-length c =
-    let (hm, (km, room)) = c .before .before .pre in
-    same-size hm km (c .before .loop .inv) room
-
 returns : tie.Need-returns Inv-loop μ-loop
 returns c =
     let w = c .before .before .args .pattern .now in
@@ -166,21 +133,21 @@ write-second-group-spec =
     (tie.spec
     Inv-loop
     μ-loop
-    cast-last
+    (λ c. small-fits _ (omega arith))
     sub-last
     (λ c. omega arith)
     loop-holds
     (λ c. omega arith)
     (λ c. omega arith)
-    cast-if2
-    mul-if2
-    element-copy-out-if2
+    (λ c. rw (at-position c .0) (tt, omega (arith, at-position c .1)))
+    (λ c. rw (at-position c .0) (omega (arith, at-position c .1)))
+    (λ c. rw (at-position c .0) (omega (arith, at-position c .1)))
     (λ c. omega arith)
-    mul-h-2
-    slice-set-from-h
-    add-next
+    (λ c. omega (arith, next-in-buffer c, c .before .before .before .before .before .before))
+    (λ c. next-in-buffer c .0)
+    (λ c. omega (arith, next-in-buffer c, c .before .before .before .before .before .before))
     (λ c. omega arith)
     (λ c. omega arith)
     loop-again
-    same-length
+    (λ c. let (hm, (km, room)) = c .before .before .pre in same-size hm km (c .before .loop .inv) room)
     returns)

@@ -48,12 +48,6 @@ Inv-loop pattern k-min begin order₀ next₀ h₀ h-end order next h = Begun pa
 abbrev μ-loop : tie.MeasureT-loop
 μ-loop pattern k-min begin order₀ next₀ h₀ h-end order next h = length pattern - h
 
-loop-holds : tie.Need-loop-holds Inv-loop μ-loop
-loop-holds c = record { high = omega arith; written = rw (third-all _) (none-written _ _ _ (omega arith)) }
-
-cast-order : tie.Need-cast-order Inv-loop μ-loop
-cast-order c = small-fits _ (omega arith)
-
 next-in-buffer :
     (c : tie.Then1 Inv-loop μ-loop) →
     let loop = c .before .before .before .loop in
@@ -63,15 +57,6 @@ next-in-buffer c =
     let r = c .before .before .before .loop .inv in
     let room = s .pre .1 .1 in
     (in-buffer r room (omega arith) (sym (s .pre .1 .0 .entry _ (omega arith)) ∙ c .if1 .taken), same-size r room)
-
-mul-t15 : tie.Need-mul-t15 Inv-loop μ-loop
-mul-t15 c = omega (arith, next-in-buffer c, c .before .before .before .before)
-
-slice-set-from-order : tie.Need-slice-set-from-order Inv-loop μ-loop
-slice-set-from-order c = next-in-buffer c .0
-
-add-next : tie.Need-add-next Inv-loop μ-loop
-add-next c = omega (arith, next-in-buffer c, c .before .before .before .before)
 
 loop-again : tie.Need-loop-again Inv-loop μ-loop
 loop-again c =
@@ -83,9 +68,6 @@ loop-again c =
     (λ t. rw (t .1, t .2) (store r room (omega arith) (sym entry ∙ t .0 .taken) (omega arith)))
     (λ t. rw (t .1, t .2) (skip r room (omega arith) (λ e. t .0 .left (entry ∙ e))))
     (c .if1 .came)
-
-same-length : tie.Need-same-length Inv-loop μ-loop
-same-length c = same-size (c .before .loop .inv) (c .before .before .pre .1 .1)
 
 returns : tie.Need-returns Inv-loop μ-loop
 returns c =
@@ -99,15 +81,15 @@ write-third-group-spec =
     Inv-loop
     μ-loop
     (λ c. omega arith)
-    loop-holds
+    (λ c. record { high = omega arith; written = rw (third-all _) (none-written _ _ _ (omega arith)) })
     (λ c. omega arith)
     (λ c. omega arith)
-    cast-order
-    mul-t15
-    slice-set-from-order
-    add-next
+    (λ c. small-fits _ (omega arith))
+    (λ c. omega (arith, next-in-buffer c, c .before .before .before .before))
+    (λ c. next-in-buffer c .0)
+    (λ c. omega (arith, next-in-buffer c, c .before .before .before .before))
     (λ c. omega arith)
     (λ c. omega arith)
     loop-again
-    same-length
+    (λ c. same-size (c .before .loop .inv) (c .before .before .pre .1 .1))
     returns)

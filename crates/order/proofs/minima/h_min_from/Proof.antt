@@ -95,9 +95,6 @@ Inv-loop pattern k from below₀ below = Compared pattern k from below
 abbrev μ-loop : tie.MeasureT-loop
 μ-loop pattern k from below₀ below = (below + 1) % 65536
 
-cast-below : tie.Need-cast-below Inv-loop μ-loop
-cast-below c = small-fits (c .args .from) (omega arith)
-
 cast-below-2 : tie.Need-cast-below-2 Inv-loop μ-loop
 cast-below-2 c = small-fits (c .args .k) (omega arith)
 
@@ -127,18 +124,6 @@ here c = position (c .before .before .pre) (c .before .loop .inv) (c .loop-test 
 cast-if1 : tie.Need-cast-if1 Inv-loop μ-loop
 cast-if1 c = rw (here c .1) (tt, record { fits = omega arith })
 
-shared-slice-read-if1 : tie.Need-shared-slice-read-if1 Inv-loop μ-loop
-shared-slice-read-if1 c = rw (here (c .before) .1) (omega arith)
-
-cast-if1-2 : tie.Need-cast-if1-2 Inv-loop μ-loop
-cast-if1-2 c = cast-if1 (c .before)
-
-add-if1 : tie.Need-add-if1 Inv-loop μ-loop
-add-if1 c = rw (here (c .before) .1) (omega (arith, here (c .before) .0))
-
-shared-slice-read-if1-2 : tie.Need-shared-slice-read-if1-2 Inv-loop μ-loop
-shared-slice-read-if1-2 c = rw (here (c .before .before) .1) (omega (arith, here (c .before .before) .0))
-
 sub-below-2 : tie.Need-sub-below-2 Inv-loop μ-loop
 sub-below-2 c =
     let d = c .before .before .before in
@@ -155,9 +140,6 @@ loop-again : tie.Need-loop-again Inv-loop μ-loop
 loop-again c =
     let d = c .before .before .before in
     next (d .before .before .pre) (d .before .loop .inv) (d .loop-test .taken) (c .if1 .taken)
-
-cast-result : tie.Need-cast-result Inv-loop μ-loop
-cast-result c = cast-below-2 (c .before .before)
 
 add-result : tie.Need-add-result Inv-loop μ-loop
 add-result c =
@@ -178,18 +160,18 @@ h-min-from-spec =
     (tie.spec
     Inv-loop
     μ-loop
-    cast-below
+    (λ c. small-fits (c .args .from) (omega arith))
     cast-below-2
     sub-below
     loop-holds
     cast-if1
-    shared-slice-read-if1
-    cast-if1-2
-    add-if1
-    shared-slice-read-if1-2
+    (λ c. rw (here (c .before) .1) (omega arith))
+    (λ c. cast-if1 (c .before))
+    (λ c. rw (here (c .before) .1) (omega (arith, here (c .before) .0)))
+    (λ c. rw (here (c .before .before) .1) (omega (arith, here (c .before .before) .0)))
     sub-below-2
     loop-less
     loop-again
-    cast-result
+    (λ c. cast-below-2 (c .before .before))
     add-result
     returns)

@@ -15,7 +15,7 @@ use lib.Signed.{ltZ}
 use mir.Syntax.{w16}
 use mir.Val.{SFits, toZ, ofZ}
 use Rattle.order.proofs.Copied.{copied, known-above}
-use Rattle.order.proofs.Entries.{entry, minus, h-min-small, entry-back, minus-fits, minus-back}
+use Rattle.order.proofs.Entries.{entry, minus, Read, h-min-small, read-one, minus-fits, minus-back}
 use Rattle.tables.proofs.HMin.{h-min-facts}
 use Rattle.order.proofs.Signed.{small-fits, small, exceeds}
 use Rattle.order.proofs.Stores.{stored}
@@ -59,27 +59,21 @@ module _ {w : List ℕ} (taken : Taken w) where
     abbrev d : ℕ
     d = k - base
 
-    base-right : getD t base (pos 0) ≡ pos (h-min w base)
-    base-right = r .filled .right base (r .low) (r .below)
-
-    base-small : h-min w base < 128
-    base-small = h-min-small w taken base (r .low) (omega (arith, r, u))
-
-    base-back : toZ w16 (entry t base) ≡ pos (h-min w base)
-    base-back = entry-back w taken t base (r .low) (omega (arith, r, u)) base-right
+    read-base : Read w t base
+    read-base = read-one taken t base (r .low) (omega (arith, r, u)) (r .filled .right base (r .low) (r .below))
 
     d-right : getD t d (pos 0) ≡ pos (h-min w d)
     d-right = r .filled .right d (omega (arith, r)) (omega (arith, r))
 
     fits : SFits w16 (minus t d)
-    fits = minus-fits w taken t d (omega (arith, r)) (omega (arith, r, u)) d-right
+    fits = minus-fits taken t d (omega (arith, r)) (omega (arith, r, u)) d-right
 
     known-is : known t base d ≡ h-min w base + d
-    known-is = rw base-back
+    known-is = rw (read-base .0)
 
     tests : lies-higher t base d ≡ ltb (h-min w base + d) (h-min w d)
     tests =
-        rw (base-back, minus-back w taken t d (omega (arith, r)) (omega (arith, r, u)) d-right)
+        rw (read-base .0, minus-back taken t d (omega (arith, r)) (omega (arith, r, u)) d-right)
         (exceeds (h-min w base) (h-min w d) d)
 
     copies : lies-higher t base d ≡ true → getD t d (pos 0) ≡ pos (h-min w k)
@@ -137,25 +131,18 @@ loop-holds c =
 taken-in : (c : tie.In-loop Inv-loop μ-loop) → Taken (c .before .before .before .before .args .pattern .now)
 taken-in c = c .before .before .before .before .pre .0
 
-cast-if1 : tie.Need-cast-if1 Inv-loop μ-loop
-cast-if1 c = small-fits _ (omega arith)
-
-sub-if1 : tie.Need-sub-if1 Inv-loop μ-loop
-sub-if1 c =
-    let d = c .before .before in
-    fits (taken-in d) (d .before .loop .inv) (omega arith)
-
 cast-known : tie.Need-cast-known Inv-loop μ-loop
 cast-known c =
     let d = c .before .before .before in
     let r = d .before .loop .inv in
-    rw (base-back (taken-in d) r (omega arith)) (tt, record { fits = omega (arith, base-small (taken-in d) r (omega arith)) })
+    let (at, small-at) = read-base (taken-in d) r (omega arith) in
+    rw at (tt, record { fits = omega arith })
 
 add-known : tie.Need-add-known Inv-loop μ-loop
 add-known c =
     let d = c .before .before .before in
     let r = d .before .loop .inv in
-    rw (known-is (taken-in d) r (omega arith)) (omega (arith, base-small (taken-in d) r (omega arith)))
+    rw (known-is (taken-in d) r (omega arith)) (omega (arith, read-base (taken-in d) r (omega arith) .1))
 
 h-min-from-requires-2 : tie.Need-h-min-from-requires-2 Inv-loop μ-loop
 h-min-from-requires-2 c κs =
@@ -194,8 +181,8 @@ h-min-table-spec =
     (λ c. omega arith)
     (λ c. omega arith)
     (λ c. omega arith)
-    cast-if1
-    sub-if1
+    (λ c. small-fits _ (omega arith))
+    (λ c. let d = c .before .before in fits (taken-in d) (d .before .loop .inv) (omega arith))
     (λ c. omega arith)
     (λ c. omega arith)
     cast-known

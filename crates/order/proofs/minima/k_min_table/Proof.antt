@@ -13,7 +13,7 @@ use lib.ListN.{length, getD, set, length-set, getD-replicate}
 use lib.Signed.{leZ}
 use mir.Syntax.{w16}
 use mir.Val.{SFits, toZ, ofZ}
-use Rattle.order.proofs.Entries.{entry, minus, h-min-small, entry-back, minus-fits, minus-back}
+use Rattle.order.proofs.Entries.{entry, minus, minus-fits, minus-back, Read, read}
 use Rattle.tables.proofs.KMin.{Least-above, least-above-here, least-above-other, least-above-all}
 use Rattle.order.proofs.Signed.{small-fits, at-least-zero}
 use Rattle.order.proofs.Stores.{stored}
@@ -28,27 +28,18 @@ record Begun (w t : List ℕ) (k : ℕ) : Type 0 where
   right : (h : ℕ) → h < length w → Least-above w k h (getD t h 0)
 
 module _ {w : List ℕ} {hs : List ℤ} (table : H-min-table w hs) {t : List ℕ} {k : ℕ} (r : Begun w t k) (l : 1 ≤ k) where
-  h-right : getD hs k (pos 0) ≡ pos (h-min w k)
-  h-right = table .entry k l (r .high)
-
-  position : toZ w16 (entry hs k) ≡ pos (h-min w k)
-  position = entry-back w (table .taken) hs k l (r .high) h-right
-
-  in-table : h-min w k < 129
-  in-table = omega (arith, h-min-small w (table .taken) k l (r .high))
-
   fits : SFits w16 (minus hs k)
-  fits = minus-fits w (table .taken) hs k l (r .high) h-right
+  fits = minus-fits (table .taken) hs k l (r .high) (table .entry k l (r .high))
 
   tests : leZ (pos 0) (toZ w16 (ofZ w16 (minus hs k))) ≡ leb k (h-min w k)
-  tests = rw (minus-back w (table .taken) hs k l (r .high) h-right) (at-least-zero (h-min w k) k)
+  tests = rw (minus-back (table .taken) hs k l (r .high) (table .entry k l (r .high))) (at-least-zero (h-min w k) k)
 
   take : leZ (pos 0) (toZ w16 (ofZ w16 (minus hs k))) ≡ true → Begun w (set t (natAbs (toZ w16 (entry hs k))) k) (k - 1)
-  take e = rw position (record {
+  take e = rw (read table k l (r .high) .0) (record {
     size = length-set t _ k ∙ r .size;
     high = omega (arith, r);
     right = λ h b.
-        stored (Least-above w (k - 1)) 0 t (h-min w k) k (omega (arith, in-table, r))
+        stored (Least-above w (k - 1)) 0 t (h-min w k) k (omega (arith, read table k l (r .high) .1, r))
         (least-above-here w k _ l (leb-true _ _ (sym tests ∙ e)) refl)
         h
         (λ n. least-above-other w k h _ (λ a q. n (sym q)) (r .right h b));
@@ -76,35 +67,12 @@ loop-holds c = record {
   right = λ h b. inl (rw (c .pre .1) (getD-replicate 129 h 0 0 (omega arith)), λ j a u. absurd (omega arith));
 }
 
-cast-if1 : tie.Need-cast-if1 Inv-loop μ-loop
-cast-if1 c = small-fits _ (omega arith)
-
-sub-if1 : tie.Need-sub-if1 Inv-loop μ-loop
-sub-if1 c =
-    let d = c .before in
-    let s = d .before .before in
-    fits (s .pre .0) (d .before .loop .inv) (omega arith)
-
 -- the entry that is stored
 at-position :
     (c : tie.Then1 Inv-loop μ-loop) →
-    let s = c .before .before .before .before in
-    let k = c .before .before .before .loop .k in
-    (toZ w16 (entry (s .args .h-min .now) k) ≡ pos (h-min (s .args .pattern .now) k)) × (h-min (s .args .pattern .now) k < 129)
-at-position c =
-    let d = c .before .before in
-    let s = d .before .before in
-    let r = d .before .loop .inv in
-    (position (s .pre .0) r (omega arith), in-table (s .pre .0) r (omega arith))
-
-cast-k-min-2 : tie.Need-cast-k-min-2 Inv-loop μ-loop
-cast-k-min-2 c = rw (at-position c .0) (tt, omega (arith, at-position c .1))
-
-mul-k-min : tie.Need-mul-k-min Inv-loop μ-loop
-mul-k-min c = rw (at-position c .0) (omega (arith, at-position c .1))
-
-element-write-k-min : tie.Need-element-write-k-min Inv-loop μ-loop
-element-write-k-min c = rw (at-position c .0) (at-position c .1)
+    let args = c .before .before .before .before .args in
+    Read (args .pattern .now) (args .h-min .now) (c .before .before .before .loop .k)
+at-position c = read (c .before .before .before .before .pre .0) _ (omega arith) (omega arith)
 
 loop-again : tie.Need-loop-again Inv-loop μ-loop
 loop-again c =
@@ -128,12 +96,12 @@ k-min-table-spec =
     loop-holds
     (λ c. omega arith)
     (λ c. omega arith)
-    cast-if1
-    sub-if1
+    (λ c. small-fits _ (omega arith))
+    (λ c. let d = c .before in let s = d .before .before in fits (s .pre .0) (d .before .loop .inv) (omega arith))
     (λ c. omega arith)
-    cast-k-min-2
-    mul-k-min
-    element-write-k-min
+    (λ c. rw (at-position c .0) (tt, omega (arith, at-position c .1)))
+    (λ c. rw (at-position c .0) (omega (arith, at-position c .1)))
+    (λ c. rw (at-position c .0) (omega (arith, at-position c .1)))
     (λ c. omega arith)
     (λ c. omega arith)
     loop-again

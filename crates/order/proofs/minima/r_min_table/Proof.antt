@@ -31,14 +31,11 @@ record Begun (w t : List ℕ) (least r : ℕ) : Type 0 where
   right : (h : ℕ) → r ≤ h → h < length w → getD t h 0 ≡ r-min w h
 
 module _ {w : List ℕ} {hs : List ℤ} (table : H-min-table w hs) {t : List ℕ} {least r : ℕ} (b : Begun w t least r) (l : 1 ≤ r) where
-  h-right : getD hs r (pos 0) ≡ pos (h-min w r)
-  h-right = table .entry r l (b .high)
-
   fits : SFits w16 (minus hs r)
-  fits = minus-fits w (table .taken) hs r l (b .high) h-right
+  fits = minus-fits (table .taken) hs r l (b .high) (table .entry r l (b .high))
 
   tests : ltZ (toZ w16 (ofZ w16 (minus hs r))) (pos 0) ≡ ltb (h-min w r) r
-  tests = rw (minus-back w (table .taken) hs r l (b .high) h-right) (below-zero (h-min w r) r)
+  tests = rw (minus-back (table .taken) hs r l (b .high) (table .entry r l (b .high))) (below-zero (h-min w r) r)
 
   here : ltZ (toZ w16 (ofZ w16 (minus hs r))) (pos 0) ≡ true → R-min w (r - 1) r
   here e = r-min-here w r l (b .high) (ltb-true (h-min w r) r (sym tests ∙ e))
@@ -68,14 +65,6 @@ loop-holds : tie.Need-loop-holds Inv-loop μ-loop
 loop-holds c =
     record { size = c .pre .1; high = omega arith; above = λ a. absurd (omega arith); right = λ h a u. absurd (omega arith) }
 
-cast-if1 : tie.Need-cast-if1 Inv-loop μ-loop
-cast-if1 c = small-fits _ (omega arith)
-
-sub-if1 : tie.Need-sub-if1 Inv-loop μ-loop
-sub-if1 c =
-    let d = c .before in
-    fits (d .before .before .pre .0) (d .before .loop .inv) (omega arith)
-
 -- after the branch `least` is the least period above r - 1
 after : (c : tie.Joined1 Inv-loop μ-loop) → R-min (c .before .before .before .before .args .pattern .now) (c .before .before .before .loop .r - 1) (c .if1 .least)
 after c =
@@ -87,16 +76,10 @@ after c =
     (λ t. rw (t .1) (other table b (omega arith) (t .0 .left)))
     (c .if1 .came)
 
-cast-r-min : tie.Need-cast-r-min Inv-loop μ-loop
-cast-r-min c = omega (arith, after (c .before))
-
 loop-again : tie.Need-loop-again Inv-loop μ-loop
 loop-again c =
     let d = c .before .before .before in
     store (d .before .before .pre .0) (d .before .loop .inv) (omega arith) _ (after (c .before))
-
-returns : tie.Need-returns Inv-loop μ-loop
-returns c = record { entry = λ h b. c .before .loop .inv .right h (omega arith) b }
 
 pub r-min-table-spec : {M : Type 1} → statement M
 r-min-table-spec =
@@ -107,12 +90,12 @@ r-min-table-spec =
     loop-holds
     (λ c. omega arith)
     (λ c. omega arith)
-    cast-if1
-    sub-if1
+    (λ c. small-fits _ (omega arith))
+    (λ c. let d = c .before in fits (d .before .before .pre .0) (d .before .loop .inv) (omega arith))
     (λ c. omega arith)
-    cast-r-min
+    (λ c. omega (arith, after (c .before)))
     (λ c. omega arith)
     (λ c. omega arith)
     (λ c. omega arith)
     loop-again
-    returns)
+    (λ c. record { entry = λ h b. c .before .loop .inv .right h (omega arith) b }))
