@@ -1,7 +1,6 @@
 -- `converter::convert_status` meets its contract: past 4, 5 and 6 the buffers decide.
 -- Assumes nothing.
 use mathlib.Core.Logic.{⊎-elim}
-use borrow.Author.Needs.{needs}
 use Rattle.answers.proofs.Refusals.{job-refused, job-within, job-past}
 use Rattle.answers.specs.Refusals.{first-of}
 use Rattle.converter.proofs.convert_status.Statement.{statement}
@@ -32,7 +31,7 @@ pub convert-status-spec : {M : Type 1} → statement M
 convert-status-spec =
     tie.close
     (tie.spec
-    (λ c κs. search needs)
+    (λ c κs. tt)
     returns
     (λ c κs. job-within _ _ _ (c .before .job-status .ensures) (c .if1 .left) .pattern)
     returns-2

@@ -4,7 +4,6 @@ use mathlib.Core.List.{[], _∷_, _++_}
 use mathlib.Core.Logic.{⊎-elim}
 use mathlib.Core.Path.{_≡_}
 use Prim.Native.Nat.{ℕ}
-use borrow.Author.Needs.{needs}
 use Rattle.answers.proofs.Refusals.{job-refused, job-within, job-past, no-hold}
 use Rattle.answers.specs.Refusals.{first-of, job-refusals, buffer-refusal}
 use Rattle.tables.specs.Prepare.{table-refusal}
@@ -39,7 +38,7 @@ pub search-status-spec : {M : Type 1} → statement M
 search-status-spec =
     tie.close
     (tie.spec
-    (λ c κs. search needs)
+    (λ c κs. tt)
     returns
     (λ c κs. job-within _ _ _ (c .before .job-status .ensures) (c .if1 .left) .pattern)
     returns-2

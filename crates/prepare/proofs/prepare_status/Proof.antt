@@ -3,7 +3,6 @@
 use mathlib.Core.List.{[], _∷_, _++_}
 use mathlib.Core.Path.{_≡_}
 use Prim.Native.Nat.{ℕ}
-use borrow.Author.Needs.{needs}
 use Rattle.answers.proofs.Refusals.{job-refused, job-within, job-past, no-text}
 use Rattle.answers.specs.Refusals.{first-of, job-refusals}
 use Rattle.prepare.proofs.prepare_status.Statement.{statement}
@@ -35,7 +34,7 @@ pub prepare-status-spec : {M : Type 1} → statement M
 prepare-status-spec =
     tie.close
     (tie.spec
-    (λ c κs. search needs)
+    (λ c κs. tt)
     returns
     (λ c κs. job-within _ _ _ (c .before .job-status .ensures) (c .if1 .left) .pattern)
     returns-2

@@ -57,7 +57,7 @@ report-taken-spec =
     (λ c. zeros-length 32768)
     (λ c. zeros-length 16384)
     (λ c. zeros-length 16384)
-    (λ c κs. search needs)
+    (λ c κs. tt)
     (λ c. search needs)
     array-share-prefix-found
     slice-aggregate-write-done

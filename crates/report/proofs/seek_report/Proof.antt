@@ -60,8 +60,8 @@ seek-report-spec =
     (tie.spec
     (λ c. zeros-length 128)
     (λ c. zeros-length 16384)
-    (λ c κs. search needs)
-    (λ c κs. search needs)
+    (λ c κs. tt)
+    (λ c κs. tt)
     (λ c. search needs)
     returns
     (λ c. search needs)

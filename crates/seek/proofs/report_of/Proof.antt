@@ -18,4 +18,4 @@ returns c =
     ((omega arith, rw (r .there) (r .size)), r .there)
 
 pub report-of-spec : {M : Type 1} → statement M
-report-of-spec = tie.close (tie.spec (λ c κs. search needs) (λ c. search needs) (λ c. search needs) returns)
+report-of-spec = tie.close (tie.spec (λ c κs. tt) (λ c. search needs) (λ c. search needs) returns)

@@ -1,7 +1,6 @@
 -- `writer::write_status` meets its contract: past 4, 5 and 6 the file's length decides.
 -- Assumes nothing.
 use native.Mathlib.Omega.{arith}
-use borrow.Author.Needs.{needs}
 use borrow.Author.Tests.{lt-ltb, le-ltb}
 use Rattle.answers.proofs.Refusals.{Within-limits, job-refused, job-within, job-past}
 use Rattle.answers.specs.Refusals.{first-of}
@@ -28,7 +27,7 @@ pub write-status-spec : {M : Type 1} → statement M
 write-status-spec =
     tie.close
     (tie.spec
-    (λ c κs. search needs)
+    (λ c κs. tt)
     returns
     (λ c. omega (arith, in-limits c))
     (λ c. omega (arith, in-limits c))
