@@ -1,6 +1,7 @@
 //! Searching, beside the same algorithm in plain Rust, beside the C library's `memmem` in a loop
-//! that finds overlapping occurrences, and beside a plain scan. "Tables apart" is what a search takes
-//! beyond the same search of an empty text, which works the tables out and makes no step.
+//! that finds overlapping occurrences, and beside a plain scan. "Tables apart" is twice
+//! what a search takes beyond the same search of the text's first half: the tables and what a call
+//! costs by itself are in both.
 
 use std::cell::RefCell;
 use std::hint::black_box;
@@ -11,13 +12,13 @@ use ruffarmoire_model::gen::Random;
 
 use crate::library;
 use crate::table_buffers::TableBuffers;
-use crate::timing::{median_differences, medians, Timed};
+use crate::timing::{differences, medians, Timed};
 
 /// The bytes of each text.
 const N: usize = 16_384;
 
 /// Patterns and texts of each kind, over which a time is the mean.
-const PAIRS: usize = 4;
+const PAIRS: usize = 16;
 
 pub fn run() {
     println!(
@@ -53,22 +54,19 @@ pub fn run() {
 type Pair = (Vec<u8>, Vec<u8>);
 
 fn print(kind: Kind, m: usize, pairs: &[Pair]) {
-    let no_text: Vec<Pair> = pairs
-        .iter()
-        .map(|(pattern, _)| (pattern.clone(), vec![]))
-        .collect();
     let buffers = RefCell::new(Buffers::needed(m));
-    let searching = |pairs, call| searching(pairs, call, &buffers);
+    let searching = |call, n| searching(pairs, call, n, &buffers);
     let [rattle, rust, memmem, scan] = medians([
-        searching(pairs, library::search),
-        searching(pairs, matcher::search),
+        searching(library::search, N),
+        searching(matcher::search, N),
         finding(pairs, matcher::occurrences_by_memmem),
         finding(pairs, matcher::occurrences_by_scan),
     ]);
-    let [rattle_apart, rust_apart] = median_differences(
+    let [rattle_apart, rust_apart] = differences(
         [library::search, matcher::search]
-            .map(|call: Search| [searching(pairs, call), searching(&no_text, call)]),
-    );
+            .map(|call: Search| [searching(call, N), searching(call, N / 2)]),
+    )
+    .map(|half| 2.0 * half);
     let comparisons = comparisons(pairs) as f64 / PAIRS as f64;
     println!(
         "{m:4} {:24} | {rattle:8.1} {rust:8.1} {memmem:8.1} {scan:8.1} {:12.2} {:14.2} {:12.2} | \
@@ -165,8 +163,9 @@ impl Buffers {
 }
 
 /// A search's answer, with its occurrences in the buffer.
-fn search(call: Search, pair: &Pair, buffers: &mut Buffers) -> Answer {
+fn search(call: Search, pair: &Pair, n: usize, buffers: &mut Buffers) -> Answer {
     let (pattern, text) = black_box(pair);
+    let text = &text[..n];
     let tables = &mut buffers.tables;
     let (order, delta2) = (&mut tables.order, &mut tables.delta2);
     let answer = call(
@@ -180,18 +179,23 @@ fn search(call: Search, pair: &Pair, buffers: &mut Buffers) -> Answer {
     black_box((answer, buffers)).0
 }
 
-fn searching<'a>(pairs: &'a [Pair], call: Search, buffers: &'a RefCell<Buffers>) -> Timed<'a> {
+fn searching<'a>(
+    pairs: &'a [Pair],
+    call: Search,
+    n: usize,
+    buffers: &'a RefCell<Buffers>,
+) -> Timed<'a> {
     let mut expected = Buffers::needed(pairs[0].0.len());
     for pair in pairs {
-        let answer = search(call, pair, &mut buffers.borrow_mut());
-        let other = search(matcher::search, pair, &mut expected);
+        let answer = search(call, pair, n, &mut buffers.borrow_mut());
+        let other = search(matcher::search, pair, n, &mut expected);
         let h = answer.occurrences as usize;
         let found = &buffers.borrow().found;
         assert_eq!((answer, &found[..h]), (other, &expected.found[..h]));
     }
     Timed::new(pairs.len(), move || {
         for pair in pairs {
-            search(call, pair, &mut buffers.borrow_mut());
+            search(call, pair, n, &mut buffers.borrow_mut());
         }
     })
 }
@@ -201,7 +205,7 @@ fn finding(pairs: &[Pair], call: Find) -> Timed<'_> {
     let mut found = vec![0; N];
     for pair in pairs {
         let count = call(&pair.0, &pair.1, &mut found);
-        let answer = search(matcher::search, pair, &mut expected);
+        let answer = search(matcher::search, pair, N, &mut expected);
         assert_eq!(count, answer.occurrences as usize);
         assert_eq!(found[..count], expected.found[..count]);
     }
@@ -219,6 +223,6 @@ fn comparisons(pairs: &[Pair]) -> u32 {
     let mut buffers = Buffers::needed(pairs[0].0.len());
     pairs
         .iter()
-        .map(|pair| search(library::search, pair, &mut buffers).comparisons)
+        .map(|pair| search(library::search, pair, N, &mut buffers).comparisons)
         .sum()
 }

@@ -1,4 +1,4 @@
-//! Medians of times that are taken turn by turn.
+//! Times that are taken turn by turn: their medians, and the differences of two.
 
 use std::ffi::{c_int, c_long};
 use std::time::Instant;
@@ -96,38 +96,45 @@ fn thread_seconds() -> f64 {
 }
 
 /// The least time of a sample whose difference from another is taken, in seconds.
-const DIFFERENCE_SAMPLE: f64 = 1e-3;
+const DIFFERENCE_SAMPLE: f64 = 2e-4;
 
-/// The time that all such samples of a comparison take, in seconds, where the turns allow it.
-const DIFFERENCES: f64 = 0.8;
+/// The time that all such samples of a row take, in seconds, where that is enough for a few turns.
+const DIFFERENCES: f64 = 1.2;
 
-/// The median over the turns of what a call of the first of each pair takes beyond a call of the
-/// second, in microseconds. Both are timed one right after the other, who goes first by turns, in
-/// samples so long that what ran before them does not count.
-pub fn median_differences<const N: usize>(mut pairs: [[Timed; 2]; N]) -> [f64; N] {
+/// What a call of the first of each pair takes beyond a call of the second, in microseconds: the mean
+/// over the turns, without the slowest tenth of them. All are timed in each turn, in an order that
+/// changes, and each is run once right before its sample, so that what ran before does not count.
+pub fn differences<const N: usize>(mut pairs: [[Timed; 2]; N]) -> [f64; N] {
     let first: [f64; N] = std::array::from_fn(|which| {
-        let [more, _] = &mut pairs[which];
-        more.seconds(1);
-        more.seconds(1)
+        pairs[which][0].run(1);
+        pairs[which][0].seconds(1)
     });
     let runs = first.map(|seconds| (DIFFERENCE_SAMPLE / seconds).ceil().clamp(1.0, 1e5) as usize);
     let turn: f64 = (0..N)
-        .map(|which| 2.0 * first[which] * runs[which] as f64)
+        .map(|which| 2.0 * first[which] * (runs[which] + 1) as f64)
         .sum();
-    let turns = (DIFFERENCES / turn).clamp(FEWEST as f64, TURNS as f64) as usize;
+    let turns = (DIFFERENCES / turn).max(FEWEST as f64) as usize;
 
-    let mut differences = [const { Vec::new() }; N];
+    let mut samples: Vec<[[f64; 2]; N]> = Vec::new();
     for turn in 0..turns {
-        for (which, pair) in pairs.iter_mut().enumerate() {
-            let mut taken = [0.0; 2];
-            for place in [turn % 2, 1 - turn % 2] {
-                taken[place] = pair[place].seconds(runs[which]) / runs[which] as f64;
+        let mut taken = [[0.0; 2]; N];
+        for place in 0..N {
+            let which = (turn / 2 + place) % N;
+            for part in [turn % 2, 1 - turn % 2] {
+                let timed = &mut pairs[which][part];
+                timed.run(1);
+                taken[which][part] = timed.seconds(runs[which]) / runs[which] as f64;
             }
-            differences[which].push(taken[0] - taken[1]);
         }
+        samples.push(taken);
     }
+    let whole = |taken: &[[f64; 2]; N]| taken.iter().flatten().sum::<f64>();
+    samples.sort_by(|a, b| whole(a).total_cmp(&whole(b)));
+    let kept = &samples[..(samples.len() * 9).div_ceil(10)];
     std::array::from_fn(|which| {
-        median(&mut differences[which]) * 1e6 / pairs[which][0].calls as f64
+        let beyond = |taken: &[[f64; 2]; N]| taken[which][0] - taken[which][1];
+        let mean = kept.iter().map(beyond).sum::<f64>() / kept.len() as f64;
+        mean * 1e6 / pairs[which][0].calls as f64
     })
 }
 
