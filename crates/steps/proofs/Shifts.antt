@@ -59,10 +59,3 @@ module _ {w t delta2 delta1 : List ℕ} {b s agreed : ℕ} (known : Compared w t
             begins-entry (Δ2 w) delta2 (known .delta2-ready) agreed 0 (omega (arith, at-most))
             ∙ rw (known .count) (sym (step-shift-later (byte t) w b s (omega (arith, known .count))));
       }
-
-  -- where all agree, Δ2's last entry
-  pub last-inside : length w < length delta2
-  last-inside = omega (arith, begins-room (Δ2 w) delta2 (known .delta2-ready), Δ2-length w nonempty)
-
-  pub last-shift : length w ≤ agreed → getD delta2 (length w) 0 ≡ step (byte t) w b s .shift
-  last-shift l = let e : agreed ≡ length w = omega (arith, at-most) in rw e at (later-shift-at (omega (arith, nonempty)) .shift)

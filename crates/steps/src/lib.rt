@@ -10,7 +10,7 @@ pub struct Counts {
     pub comparisons: u32,
 }
 
-// The shift of an alignment at b of which so many comparisons agreed, s the shift before it.
+// The shift of an alignment at b of which so many comparisons agreed, s the shift before it. Where all agreed, Δ2 has the period.
 fn shift_after(
     pattern: &[u8],
     text: &[u8],
@@ -24,14 +24,11 @@ fn shift_after(
     ensures { λ r. ⌜ r ≡ step (byte (now (text .entry))) (now (pattern .entry)) b s .shift ⌝ }
 {
     let m = pattern.len();
-    let period = delta2[m] as usize;
     if agreed == 0 {
         let seen = text[b + m - 1] as usize;
         delta1[seen * m + s - 1] as usize
-    } else if agreed < m {
-        delta2[agreed] as usize
     } else {
-        period
+        delta2[agreed] as usize
     }
 }
 
