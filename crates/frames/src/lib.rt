@@ -7,7 +7,7 @@ ghost use Rattle.frames.specs.Frames.{with-holds};
 
 const HOLD: u16 = 256;
 
-// Copies each byte of a text to a move.
+// Copies each byte of a text to a move. It is public for the crate that converts, which has measured the buffer.
 pub fn write_moves(text: &[u8], frames: &mut [u16])
     requires { ⌜ length (now text) ≤ length (now frames) ⌝ }
     ensures { λ r. ⌜ now (frames .exit) ≡ in-front (now (text .entry)) (now (frames .entry)) ⌝ }
@@ -17,7 +17,8 @@ pub fn write_moves(text: &[u8], frames: &mut [u16])
     }
 }
 
-// Makes frame b + q a hold for every entry b, q being the hold offset (hold place).
+// Makes frame b + q a hold for every entry b, q being the hold offset (hold place). It is public for the crate that converts, whose
+// entries are occurrences.
 pub fn mark_holds(found: &[u16], hold: usize, frames: &mut [u16])
     requires { ⌜ ((i : ℕ) → i < length (now found) → getD (now found) i 0 + hold < length (now frames)) ⌝ }
     ensures { λ r. ⌜ now (frames .exit) ≡ with-holds hold (now (found .entry)) (now (frames .entry)) ⌝ }

@@ -10,7 +10,8 @@ ghost use Rattle.lines.specs.Lines.{line};
 // What ends each line.
 pub const LINE_END: u8 = 0x0A;
 
-// Writes a number in so many digits after the first entries, as many as `at` says.
+// Writes a number in so many digits after the first entries, as many as `at` says. It is public for the crates that write job files and
+// reports, which have measured their buffers.
 pub fn write_digits(count: usize, number: u32, at: usize, out: &mut [u8])
     requires { ⌜ at + count ≤ length (now out) ⌝ }
     ensures { λ r. ⌜ now (out .exit) ≡ in-front (take at (now (out .entry)) ++ digits count number) (now (out .entry)) ⌝ }
@@ -24,7 +25,7 @@ pub fn write_digits(count: usize, number: u32, at: usize, out: &mut [u8])
     }
 }
 
-// Writes a line of so many digits after the first entries, as many as `at` says.
+// Writes a line of so many digits after the first entries, as many as `at` says. It is public for the same crates.
 pub fn write_line(count: usize, number: u32, at: usize, out: &mut [u8])
     requires { ⌜ at + count + 1 ≤ length (now out) ⌝ }
     ensures { λ r. ⌜ now (out .exit) ≡ in-front (take at (now (out .entry)) ++ line count number) (now (out .entry)) ⌝ }

@@ -50,6 +50,7 @@ pub fn write_refused(status: u32, out: &mut [u8]) -> ReportAnswer
 }
 
 // Writes the report of a job that is taken: what it is converted to is this answer, with these occurrences (finds) and frames.
+// It is public for the crate that reports a job, whose text is no longer than the longest.
 pub fn write_done(converted: Answer, found: &[u16], frames: &[u16], out: &mut [u8]) -> ReportAnswer
     requires { ⌜ length (now found) ≤ 16384 ⌝ }
     requires { ⌜ length (now frames) ≤ 16384 ⌝ }

@@ -1,5 +1,5 @@
 -- What each table of a pattern holds, as propositions: every entry is the least number that its sets allow. Each record's proof is in
--- proofs/ or owed (docs/PROMISES.md); after it, no proof unfolds the table's definition. These are definitions.
+-- proofs/ (docs/PROMISES.md); after it, no proof unfolds the table's definition. These are definitions.
 use mathlib.Core.List.{List}
 use mathlib.Core.Logic.{_≢_, _⊎_}
 use mathlib.Core.Path.{_≡_}
