@@ -26,7 +26,7 @@ mod foreign {
         ) -> ReadAnswer;
 
         pub fn write_job(
-            hold: u32,
+            hold_offset: u32,
             pattern: *const u8,
             pattern_length: usize,
             text: *const u8,
@@ -62,7 +62,7 @@ mod foreign {
         ) -> Answer;
 
         pub fn convert(
-            hold: u32,
+            hold_offset: u32,
             pattern: *const u8,
             pattern_length: usize,
             text: *const u8,
@@ -104,11 +104,11 @@ pub fn read_job(file: &[u8], pattern: &mut [u8], text: &mut [u8]) -> ReadAnswer 
     }
 }
 
-pub fn write_job(hold: u32, pattern: &[u8], text: &[u8], file: &mut [u8]) -> WriteAnswer {
+pub fn write_job(hold_offset: u32, pattern: &[u8], text: &[u8], file: &mut [u8]) -> WriteAnswer {
     // SAFETY: each pointer and length is that of a slice that stays borrowed during the call.
     unsafe {
         foreign::write_job(
-            hold,
+            hold_offset,
             pattern.as_ptr(),
             pattern.len(),
             text.as_ptr(),
@@ -169,7 +169,7 @@ pub fn search(
 
 #[allow(clippy::too_many_arguments)]
 pub fn convert(
-    hold: u32,
+    hold_offset: u32,
     pattern: &[u8],
     text: &[u8],
     order: &mut [i16],
@@ -181,7 +181,7 @@ pub fn convert(
     // SAFETY: each pointer and length is that of a slice that stays borrowed during the call.
     unsafe {
         foreign::convert(
-            hold,
+            hold_offset,
             pattern.as_ptr(),
             pattern.len(),
             text.as_ptr(),

@@ -10,13 +10,6 @@ use crate::job::{file_length, first_line, lines};
 use crate::tables::Tables;
 use crate::{convert, job, seek, steps};
 
-/// A buffer after a call: the entries that the call puts there, and past them what it held.
-pub fn after<T: Copy>(before: &[T], front: &[T]) -> Vec<T> {
-    let mut buffer = before.to_vec();
-    buffer[..front.len()].copy_from_slice(front);
-    buffer
-}
-
 /// Refusal 7 for one buffer.
 fn check_buffer(length: usize, needed: usize) -> Result<(), Refusal> {
     if length < needed {

@@ -3,7 +3,7 @@
 /// The frame that is a hold. The frames 0 to 255 are moves.
 pub const HOLD: u16 = 256;
 
-/// The places b with b + m at most n and t(b + j) = w(j) for each j from 0 to m - 1, ascending.
+/// The positions b with b + m at most n and t(b + j) = w(j) for each j from 0 to m - 1, ascending.
 pub fn occurrences(pattern: &[u8], text: &[u8]) -> Vec<usize> {
     let m = pattern.len();
     (0..=text.len())
@@ -11,7 +11,7 @@ pub fn occurrences(pattern: &[u8], text: &[u8]) -> Vec<usize> {
         .collect()
 }
 
-/// The places b + q, in the order of the occurrences b.
+/// The positions b + q, in the order of the occurrences b.
 pub fn holds(pattern: &[u8], hold: usize, text: &[u8]) -> Vec<usize> {
     occurrences(pattern, text)
         .into_iter()
@@ -22,8 +22,8 @@ pub fn holds(pattern: &[u8], hold: usize, text: &[u8]) -> Vec<usize> {
 /// Each byte as a move, then frame b + q as a hold for every occurrence b.
 pub fn frames(pattern: &[u8], hold: usize, text: &[u8]) -> Vec<u16> {
     let mut frames: Vec<u16> = text.iter().map(|&byte| u16::from(byte)).collect();
-    for place in holds(pattern, hold, text) {
-        frames[place] = HOLD;
+    for position in holds(pattern, hold, text) {
+        frames[position] = HOLD;
     }
     frames
 }

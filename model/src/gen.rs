@@ -158,7 +158,7 @@ fn spoil(random: &mut Random, bytes: &mut [u8], few: &[u8]) {
         return;
     }
     for _ in 0..random.below(bytes.len() / 16 + 2) {
-        let place = random.below(bytes.len());
-        bytes[place] = random.pick(few);
+        let position = random.below(bytes.len());
+        bytes[position] = random.pick(few);
     }
 }

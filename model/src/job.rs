@@ -17,11 +17,11 @@ pub const FIRST_LINE: usize = 11;
 /// What a job file says.
 #[derive(Clone, Debug, PartialEq, Eq)]
 pub struct Job {
-    /// The motif.
+    /// The pattern w.
     pub pattern: Vec<u8>,
-    /// The hold place q.
+    /// The hold offset q.
     pub hold: usize,
-    /// The chain.
+    /// The text t.
     pub text: Vec<u8>,
 }
 

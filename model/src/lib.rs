@@ -28,10 +28,9 @@
 //!
 //! - `cargo test --release --lib --test worked_examples --test consistency`: the model's own tests.
 //! - `cargo test --release`: also the tests of the library and of SEEK against the model.
-//! - `cargo run --release --example bench`: their speed beside [`baseline`].
+//! - `cargo run --release --example bench`: their speed beside plain Rust versions.
 
 pub mod answers;
-pub mod baseline;
 pub mod calls;
 pub mod convert;
 pub mod gen;

@@ -2,19 +2,19 @@
 
 use crate::tables::Tables;
 
-/// A comparison of the pattern's byte at one place with the text's byte at another.
+/// A comparison of the pattern's byte at one position with the text's byte at another.
 #[derive(Clone, Copy, Debug, PartialEq, Eq)]
 pub struct Comparison {
     /// i
-    pub pattern_place: usize,
+    pub pattern_position: usize,
     /// b + i
-    pub text_place: usize,
+    pub text_position: usize,
 }
 
 /// What a search does and finds.
 #[derive(Clone, Debug, Default, PartialEq, Eq)]
 pub struct Search {
-    /// The places b where all comparisons agreed, in the order of the steps.
+    /// The positions b where all comparisons agreed, in the order of the steps.
     pub occurrences: Vec<usize>,
     /// All comparisons, in the order of the steps. C is their number.
     pub comparisons: Vec<Comparison>,
@@ -53,8 +53,8 @@ pub fn search_with(tables: &Tables, pattern: &[u8], text: &[u8]) -> Search {
 /// Compares w(i) with t(b + i), writes the comparison down, and tells whether they agree.
 fn compare(pattern: &[u8], text: &[u8], b: usize, i: usize, done: &mut Search) -> bool {
     done.comparisons.push(Comparison {
-        pattern_place: i,
-        text_place: b + i,
+        pattern_position: i,
+        text_position: b + i,
     });
     pattern[i] == text[b + i]
 }

@@ -15,7 +15,7 @@ pub fn in_neg(w: &[u8], c: u8, i: isize, k: usize) -> bool {
 
 /// Whether k is in Neg(w(j), j). For j = -1 that set is empty.
 pub fn in_neg_of_own(w: &[u8], j: isize, k: usize) -> bool {
-    usize::try_from(j).is_ok_and(|place| in_neg(w, w[place], j, k))
+    usize::try_from(j).is_ok_and(|position| in_neg(w, w[position], j, k))
 }
 
 /// h_min(k), k from 1 to m: the least h at or above k - 1 such that k is outside Neg(w(j), j) for
@@ -48,9 +48,9 @@ pub fn delta1(w: &[u8], c: u8, s: usize) -> usize {
 
 /// A table of 129 entries, all 0 to begin with, in which those of the range are filled.
 fn table_of_129(range: Range<usize>, entry: impl Fn(usize) -> usize) -> Vec<usize> {
-    let filled = |place| {
-        if range.contains(&place) {
-            entry(place)
+    let filled = |index| {
+        if range.contains(&index) {
+            entry(index)
         } else {
             0
         }
@@ -71,7 +71,7 @@ pub struct Tables {
     pub k_min: Vec<usize>,
     /// r_min(h) at h, in a table of 129 entries that are 0 to begin with.
     pub r_min: Vec<usize>,
-    /// h(i) at i - 1, for i from 1 to m + 1. The entry after the last place is -1.
+    /// h(i) at i - 1, for i from 1 to m + 1. The entry after the last position is -1.
     pub order: Vec<i16>,
     /// Δ2(i) at i - 1, for i from 1 to m + 1. Δ2(1) is stored as 0.
     pub delta2: Vec<usize>,
@@ -133,7 +133,7 @@ impl Tables {
         }
     }
 
-    /// h(i), i from 1 to m: the pattern's place that is compared as the i-th.
+    /// h(i), i from 1 to m: the pattern's position that is compared as the i-th.
     pub fn h(&self, i: usize) -> usize {
         usize::try_from(self.order[i - 1]).expect("i is at most m")
     }

@@ -1,51 +1,20 @@
 //! The benchmark's plain Rust versions keep the same contracts as the library's calls.
 
 #[macro_use]
-#[path = "common/harness.rs"]
-mod harness;
+mod common;
 
-#[path = "common/examples.rs"]
-mod examples;
+#[path = "../examples/bench/baseline/mod.rs"]
+mod baseline;
 
-#[path = "common/files.rs"]
-mod files;
-
-#[path = "common/searches.rs"]
-mod searches;
-
-#[path = "common/table_buffers.rs"]
-mod table_buffers;
-
-#[path = "common/words.rs"]
-mod words;
-
-#[macro_use]
-#[path = "common/job_suite.rs"]
-mod job_suite;
-
-#[macro_use]
-#[path = "common/prepare_suite.rs"]
-mod prepare_suite;
-
-#[macro_use]
-#[path = "common/matcher_suite.rs"]
-mod matcher_suite;
-
-#[macro_use]
-#[path = "common/converter_suite.rs"]
-mod converter_suite;
-
-#[macro_use]
-#[path = "common/report_suite.rs"]
-mod report_suite;
-
-use converter_suite::ConverterCalls;
-use job_suite::JobCalls;
-use matcher_suite::MatcherCalls;
-use prepare_suite::PrepareCalls;
-use report_suite::ReportCalls;
+use common::converter_suite::ConverterCalls;
+use common::job_suite::JobCalls;
+use common::matcher_suite::MatcherCalls;
+use common::prepare_suite::PrepareCalls;
+use common::report_suite::ReportCalls;
+use common::searches;
+use common::table_buffers::{entries, LentTables};
 use ruffarmoire_model::answers::{Answer, ReadAnswer, ReportAnswer, WriteAnswer};
-use ruffarmoire_model::{baseline, convert};
+use ruffarmoire_model::convert;
 
 struct Baseline;
 
@@ -60,13 +29,8 @@ impl JobCalls for Baseline {
 }
 
 impl PrepareCalls for Baseline {
-    fn prepare(
-        pattern: &[u8],
-        order: &mut [i16],
-        delta2: &mut [u16],
-        delta1: &mut [u16],
-    ) -> Answer {
-        baseline::tables::prepare(pattern, order, delta2, delta1)
+    fn prepare(pattern: &[u8], tables: LentTables) -> Answer {
+        baseline::tables::prepare(pattern, tables.order, tables.delta2, tables.delta1)
     }
 }
 
@@ -74,26 +38,21 @@ impl PrepareCalls for Baseline {
 struct AsListed;
 
 impl PrepareCalls for AsListed {
-    fn prepare(
-        pattern: &[u8],
-        order: &mut [i16],
-        delta2: &mut [u16],
-        delta1: &mut [u16],
-    ) -> Answer {
-        baseline::tables::prepare_as_listed(pattern, order, delta2, delta1)
+    fn prepare(pattern: &[u8], tables: LentTables) -> Answer {
+        baseline::tables::prepare_as_listed(pattern, tables.order, tables.delta2, tables.delta1)
     }
 }
 
 impl MatcherCalls for Baseline {
-    fn search(
-        pattern: &[u8],
-        text: &[u8],
-        order: &mut [i16],
-        delta2: &mut [u16],
-        delta1: &mut [u16],
-        found: &mut [u16],
-    ) -> Answer {
-        baseline::matcher::search(pattern, text, order, delta2, delta1, found)
+    fn search(pattern: &[u8], text: &[u8], tables: LentTables, found: &mut [u16]) -> Answer {
+        baseline::matcher::search(
+            pattern,
+            text,
+            tables.order,
+            tables.delta2,
+            tables.delta1,
+            found,
+        )
     }
 }
 
@@ -102,12 +61,15 @@ impl ConverterCalls for Baseline {
         hold: u32,
         pattern: &[u8],
         text: &[u8],
-        order: &mut [i16],
-        delta2: &mut [u16],
-        delta1: &mut [u16],
+        tables: LentTables,
         found: &mut [u16],
         frames: &mut [u16],
     ) -> Answer {
+        let LentTables {
+            order,
+            delta2,
+            delta1,
+        } = tables;
         baseline::converter::convert(hold, pattern, text, order, delta2, delta1, found, frames)
     }
 
@@ -159,7 +121,7 @@ fn occurrences_alone() {
         .chain(searches::structured())
         .chain(searches::about_as_long());
     for (pattern, text) in all {
-        let expected = table_buffers::entries(&convert::occurrences(&pattern, &text));
+        let expected = entries(&convert::occurrences(&pattern, &text));
         let mut found = vec![0; text.len()];
         let count = baseline::matcher::occurrences_by_memmem(&pattern, &text, &mut found);
         assert_eq!(found[..count], expected);

@@ -36,13 +36,13 @@ fn check_pair(
     let first = check_search(tables, pattern, text);
     let mut compared = vec![false; text.len()];
     for comparison in &first.comparisons {
-        compared[comparison.text_place] = true;
+        compared[comparison.text_position] = true;
     }
     let often = random.between(1, 4);
     let mut other = text.to_vec();
-    for place in 0..text.len() {
-        if !compared[place] && random.below(often) == 0 {
-            other[place] = random.pick(few);
+    for position in 0..text.len() {
+        if !compared[position] && random.below(often) == 0 {
+            other[position] = random.pick(few);
         }
     }
     let second = check_search(tables, pattern, &other);
@@ -55,7 +55,7 @@ fn check_pair(
         let marked = |text: &[u8]| -> Vec<usize> {
             let frames = convert::frames(pattern, hold, text);
             (0..text.len())
-                .filter(|&place| frames[place] == convert::HOLD)
+                .filter(|&position| frames[position] == convert::HOLD)
                 .collect()
         };
         assert_eq!(marked(text), marked(&other));
@@ -172,13 +172,13 @@ fn tables_are_well_formed() {
         let (pattern, _) = SHAPES[round % SHAPES.len()].pattern_and_text(&mut random, m, 0);
         let tables = Tables::of(&pattern);
 
-        // The order has each place once, with m - 1 in front and -1 at the end.
+        // The order has each position once, with m - 1 in front and -1 at the end.
         assert_eq!(tables.order.len(), m + 1);
         assert_eq!(tables.order[0], m as i16 - 1);
         let mut sorted = tables.order.clone();
         sorted.sort();
-        let places: Vec<i16> = (-1..m as i16).collect();
-        assert_eq!(sorted, places);
+        let positions: Vec<i16> = (-1..m as i16).collect();
+        assert_eq!(sorted, positions);
 
         // Every shift is from 1 to m.
         assert_eq!(tables.delta2.len(), m + 1);
@@ -194,7 +194,7 @@ fn tables_are_well_formed() {
         let by_h_min = (1..=m).find(|&k| tables.h_min[k] == k - 1);
         assert_eq!(tables.period, by_h_min.unwrap());
 
-        // Where h_min(k) is at least k, the byte k places lower differs there and nowhere above.
+        // Where h_min(k) is at least k, the byte k positions lower differs there and nowhere above.
         for k in 1..=m {
             let h = tables.h_min[k];
             assert!((k - 1..m).contains(&h));
@@ -211,7 +211,7 @@ fn tables_are_well_formed() {
 }
 
 #[test]
-fn sets_split_the_places() {
+fn sets_split_the_positions() {
     let pattern = [1, 2, 1, 1, 3];
     for c in 0..5 {
         for i in -1..5 {
@@ -235,9 +235,9 @@ fn frames_hold_at_each_occurrence() {
         let frames = convert::frames(&job.pattern, job.hold, &job.text);
         let holds = convert::holds(&job.pattern, job.hold, &job.text);
         let expected: Vec<u16> = (0..n)
-            .map(|place| match holds.contains(&place) {
+            .map(|position| match holds.contains(&position) {
                 true => 256,
-                false => u16::from(job.text[place]),
+                false => u16::from(job.text[position]),
             })
             .collect();
         assert_eq!(frames, expected);
@@ -310,8 +310,8 @@ fn taken_files_are_written_files() {
     let mut taken = 0;
     for _ in 0..60_000 {
         let mut file = job::write(&Shape::AnyBytes.job(&mut random, 2, 1));
-        let place = random.below(file.len());
-        file[place] = random.pick(b"0129AFag\n\r ");
+        let position = random.below(file.len());
+        file[position] = random.pick(b"0129AFag\n\r ");
         match job::read(&file) {
             Ok(job) => {
                 taken += 1;

@@ -1,29 +1,13 @@
 //! Converting and counting by the library, written in Rattle, against the model.
 
 #[macro_use]
-#[path = "common/harness.rs"]
-mod harness;
-
-#[path = "common/examples.rs"]
-mod examples;
-
-#[path = "common/searches.rs"]
-mod searches;
-
-#[path = "common/table_buffers.rs"]
-mod table_buffers;
-
-#[path = "common/words.rs"]
-mod words;
-
-#[macro_use]
-#[path = "common/converter_suite.rs"]
-mod converter_suite;
+mod common;
 
 #[path = "../library/ruffarmoire.rs"]
 mod library;
 
-use converter_suite::ConverterCalls;
+use common::converter_suite::ConverterCalls;
+use common::table_buffers::LentTables;
 use ruffarmoire_model::answers::Answer;
 
 struct Library;
@@ -33,12 +17,15 @@ impl ConverterCalls for Library {
         hold: u32,
         pattern: &[u8],
         text: &[u8],
-        order: &mut [i16],
-        delta2: &mut [u16],
-        delta1: &mut [u16],
+        tables: LentTables,
         found: &mut [u16],
         frames: &mut [u16],
     ) -> Answer {
+        let LentTables {
+            order,
+            delta2,
+            delta1,
+        } = tables;
         library::convert(hold, pattern, text, order, delta2, delta1, found, frames)
     }
 

@@ -1,20 +1,12 @@
 //! Reading and writing job files by the library, written in Rattle, against the model.
 
 #[macro_use]
-#[path = "common/harness.rs"]
-mod harness;
-
-#[path = "common/examples.rs"]
-mod examples;
-
-#[macro_use]
-#[path = "common/job_suite.rs"]
-mod job_suite;
+mod common;
 
 #[path = "../library/ruffarmoire.rs"]
 mod library;
 
-use job_suite::JobCalls;
+use common::job_suite::JobCalls;
 use ruffarmoire_model::answers::{ReadAnswer, WriteAnswer};
 
 struct Library;

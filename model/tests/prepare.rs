@@ -1,35 +1,20 @@
 //! Preparing a pattern by the library, written in Rattle, against the model.
 
 #[macro_use]
-#[path = "common/harness.rs"]
-mod harness;
-
-#[path = "common/table_buffers.rs"]
-mod table_buffers;
-
-#[path = "common/words.rs"]
-mod words;
-
-#[macro_use]
-#[path = "common/prepare_suite.rs"]
-mod prepare_suite;
+mod common;
 
 #[path = "../library/ruffarmoire.rs"]
 mod library;
 
-use prepare_suite::PrepareCalls;
+use common::prepare_suite::PrepareCalls;
+use common::table_buffers::LentTables;
 use ruffarmoire_model::answers::Answer;
 
 struct Library;
 
 impl PrepareCalls for Library {
-    fn prepare(
-        pattern: &[u8],
-        order: &mut [i16],
-        delta2: &mut [u16],
-        delta1: &mut [u16],
-    ) -> Answer {
-        library::prepare(pattern, order, delta2, delta1)
+    fn prepare(pattern: &[u8], tables: LentTables) -> Answer {
+        library::prepare(pattern, tables.order, tables.delta2, tables.delta1)
     }
 }
 

@@ -1,23 +1,12 @@
 //! What SEEK prints, by the library, written in Rattle, against the model.
 
 #[macro_use]
-#[path = "common/harness.rs"]
-mod harness;
-
-#[path = "common/examples.rs"]
-mod examples;
-
-#[path = "common/files.rs"]
-mod files;
-
-#[macro_use]
-#[path = "common/report_suite.rs"]
-mod report_suite;
+mod common;
 
 #[path = "../library/ruffarmoire.rs"]
 mod library;
 
-use report_suite::ReportCalls;
+use common::report_suite::ReportCalls;
 use ruffarmoire_model::answers::ReportAnswer;
 
 struct Library;

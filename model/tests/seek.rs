@@ -1,24 +1,23 @@
 //! The program SEEK, written in Rattle, against the model: a job on standard input, and what is
 //! printed.
 
-#[path = "common/examples.rs"]
-mod examples;
-
-#[path = "common/files.rs"]
-mod files;
+mod common;
 
 #[path = "../library/seek.rs"]
 mod library;
 
 use std::fs::File;
-use std::io::{ErrorKind, Read, Write};
+use std::io::{self, ErrorKind, Read, Write};
+use std::os::fd::OwnedFd;
+use std::os::unix::net::{UnixDatagram, UnixStream};
+use std::path::Path;
 use std::process::{Child, Command, Stdio};
 use std::sync::mpsc::channel;
 use std::thread;
 use std::time::Duration;
 
-use examples::example_jobs;
-use files::{largest_job, small_job, spoiled_files};
+use common::examples::example_jobs;
+use common::files::{largest_job, small_job, spoiled_files};
 use ruffarmoire_model::gen::{Random, SHAPES};
 use ruffarmoire_model::job::{self, Job};
 use ruffarmoire_model::seek::seek;
@@ -31,51 +30,73 @@ const LIMIT: Duration = Duration::from_secs(60);
 enum Way {
     /// From a file.
     File,
-    /// Through a pipe, in one piece.
+    /// Through a pipe.
     Pipe,
-    /// Through a pipe, in pieces of so many bytes.
+    /// In pieces of so many bytes: each read gives one piece and no more, so there are as many
+    /// reads as pieces. A read that asks for less than a piece loses the rest of it, so pieces are
+    /// at most 4,096 bytes.
     Pieces(usize),
 }
 
-/// Runs SEEK on a file and gives what it printed. It ends well, and prints nothing beside that.
+/// Runs SEEK on a file and gives what it printed. It writes no errors.
 fn run(file: &[u8], way: Way) -> Vec<u8> {
-    let mut command = Command::new(library::PROGRAM);
-    command.stdout(Stdio::piped()).stderr(Stdio::piped());
-    let mut child = match way {
+    let (printed, errors) = match way {
         Way::File => {
             let name = format!("seek-{:?}", thread::current().id());
-            let path = std::path::Path::new(env!("CARGO_TARGET_TMPDIR")).join(name);
+            let path = Path::new(env!("CARGO_TARGET_TMPDIR")).join(name);
             std::fs::write(&path, file).expect("a file can be written");
             let input = File::open(&path).expect("it was just written");
-            command.stdin(input).spawn()
+            outputs(start(input), || Ok(()))
         }
-        _ => command.stdin(Stdio::piped()).spawn(),
-    }
-    .expect("SEEK starts");
-
-    let (printed, errors) = thread::scope(|scope| {
-        if let Some(mut input) = child.stdin.take() {
-            let piece = match way {
-                Way::Pieces(length) => length,
-                _ => file.len().max(1),
-            };
-            scope.spawn(move || {
-                for piece in file.chunks(piece) {
-                    match input.write_all(piece) {
-                        Ok(()) => {}
-                        // A file that is too long need not be read to its end.
-                        Err(error) if error.kind() == ErrorKind::BrokenPipe => break,
-                        Err(error) => panic!("writing to SEEK: {error}"),
-                    }
+        Way::Pipe => {
+            let mut child = start(Stdio::piped());
+            let mut input = child.stdin.take().expect("it is a pipe");
+            outputs(child, move || input.write_all(file))
+        }
+        Way::Pieces(length) => {
+            // A read of such a socket gives what was sent at once.
+            let (ours, input) = UnixDatagram::pair().expect("two sockets");
+            outputs(start(OwnedFd::from(input)), move || {
+                for piece in file.chunks(length) {
+                    ours.send(piece)?;
                 }
-            });
+                // A read of no bytes is the end.
+                ours.send(&[]).map(drop)
+            })
         }
+    };
+    assert_eq!(errors.escape_ascii().to_string(), "");
+    printed
+}
+
+fn start(input: impl Into<Stdio>) -> Child {
+    Command::new(library::PROGRAM)
+        .stdin(input)
+        .stdout(Stdio::piped())
+        .stderr(Stdio::piped())
+        .spawn()
+        .expect("SEEK starts")
+}
+
+/// What SEEK prints and what it writes as errors while its input is written. It ends well.
+fn outputs(mut child: Child, write: impl FnOnce() -> io::Result<()> + Send) -> (Vec<u8>, Vec<u8>) {
+    // A file that is too long need not be read to its end.
+    const UNREAD: [ErrorKind; 3] = [
+        ErrorKind::BrokenPipe,
+        ErrorKind::ConnectionRefused,
+        ErrorKind::ConnectionReset,
+    ];
+    let outputs = thread::scope(|scope| {
+        scope.spawn(|| {
+            if let Err(error) = write() {
+                assert!(UNREAD.contains(&error.kind()), "writing to SEEK: {error}");
+            }
+        });
         read_to_end(&mut child)
     });
     let status = child.wait().expect("it was started here");
     assert!(status.success(), "SEEK ended with {status}");
-    assert_eq!(errors.escape_ascii().to_string(), "");
-    printed
+    outputs
 }
 
 /// What a child prints and what it writes as errors, all of it, or a panic after the limit.
@@ -159,9 +180,6 @@ fn largest_jobs() {
         check_job(&shape.job(&mut random, 1, 16_384), Way::Pipe);
         check_job(&shape.job(&mut random, 128, 16_384), Way::File);
     }
-    for way in [Way::Pieces(4_096), Way::Pieces(49_546)] {
-        check_job(&largest_job(), way);
-    }
     // The longest that SEEK prints: every byte of the text is an occurrence and a frame.
     let all_found = Job {
         pattern: vec![0xFF],
@@ -178,6 +196,18 @@ fn spoiled_jobs() {
     }
 }
 
+/// As many reads as pieces, up to as many as the file has bytes.
+#[test]
+fn jobs_in_pieces() {
+    let small = job::write(&small_job());
+    for length in 1..=small.len() {
+        check(&small, Way::Pieces(length));
+    }
+    for length in [1, 11, 1_000, 4_096] {
+        check_job(&largest_job(), Way::Pieces(length));
+    }
+}
+
 #[test]
 fn spoiled_jobs_in_pieces() {
     let small = job::write(&small_job());
@@ -187,7 +217,37 @@ fn spoiled_jobs_in_pieces() {
     }
     let mut long = job::write(&largest_job());
     long.push(b'\n');
-    check(&long, Way::Pieces(49_547));
+    for length in [1, 11, 4_096] {
+        check(&long, Way::Pieces(length));
+    }
     long.resize(1 << 20, b'\n');
-    check(&long, Way::Pieces(10_000));
+    check(&long, Way::Pieces(4_000));
+}
+
+/// A read that fails, as the first and after a whole job: nothing is printed but the message.
+#[test]
+fn input_that_cannot_be_read() {
+    let folder = File::open(".").expect("this folder");
+    let mut inputs = vec![Stdio::from(folder)];
+    for file in [
+        &b""[..],
+        &job::write(&small_job()),
+        &job::write(&largest_job()),
+    ] {
+        inputs.push(Stdio::from(failing_after(file)));
+    }
+    for input in inputs {
+        let (printed, errors) = outputs(start(input), || Ok(()));
+        assert_eq!(printed.escape_ascii().to_string(), "");
+        assert_eq!(errors, b"SEEK: standard input could not be read\n");
+    }
+}
+
+/// An input that gives a file and then fails: a connection that the other side resets, as one does
+/// that is closed with something unread.
+fn failing_after(file: &[u8]) -> OwnedFd {
+    let (mut ours, mut input) = UnixStream::pair().expect("two sockets");
+    input.write_all(b"unread").expect("a socket has room");
+    ours.write_all(file).expect("a socket has room");
+    input.into()
 }

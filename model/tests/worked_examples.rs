@@ -1,5 +1,8 @@
 //! The model on document 01's worked examples ("Marked swatches") and on SEEK's listing.
 
+mod common;
+
+use common::lengths::BufferLengths;
 use ruffarmoire_model::calls::{self, TableLengths};
 use ruffarmoire_model::job::{self, Job};
 use ruffarmoire_model::steps::{bound, search};
@@ -140,21 +143,11 @@ fn refusals_of_the_calls() {
     for m in [1, 5, 128] {
         let exact = TableLengths::needed(m);
         assert_eq!(convert(0, m, 0, exact, 0, 0), 0);
-        let mut short = exact;
-        short.order -= 1;
-        assert_eq!(convert(0, m, 0, short, 0, 0), 7);
-        let mut short = exact;
-        short.delta1 -= 1;
-        assert_eq!(convert(0, m, 0, short, 0, 0), 7);
-        let mut short = exact;
-        short.delta2 -= 1;
-        assert_eq!(convert(0, m, 0, short, 0, 0), 7);
+        for short in exact.one_too_short(exact) {
+            assert_eq!(convert(0, m, 0, short, 0, 0), 7);
+        }
     }
-    let none = TableLengths {
-        order: 0,
-        delta1: 0,
-        delta2: 0,
-    };
+    let none = enough.changed(|_| 0);
     assert_eq!(convert(0, 0, 16_385, none, 0, 0), 4);
     assert_eq!(convert(1, 1, 16_385, none, 0, 0), 5);
     assert_eq!(convert(0, 1, 16_385, none, 0, 0), 6);

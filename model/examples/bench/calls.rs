@@ -5,8 +5,9 @@ use std::hint::black_box;
 use ruffarmoire_model::answers::{Answer, ReadAnswer, ReportAnswer, WriteAnswer};
 use ruffarmoire_model::gen::{Random, Shape};
 use ruffarmoire_model::job::{self, Job};
-use ruffarmoire_model::{baseline, calls, convert, seek};
+use ruffarmoire_model::{calls, convert, seek};
 
+use crate::baseline;
 use crate::library;
 use crate::table_buffers::TableBuffers;
 use crate::timing::{medians, Timed};

@@ -16,6 +16,7 @@ mod library;
 #[path = "../../library/seek.rs"]
 mod seek_program;
 
+mod baseline;
 mod calls;
 mod comparisons;
 mod prepare;

@@ -4,9 +4,9 @@
 use std::hint::black_box;
 
 use ruffarmoire_model::answers::Answer;
-use ruffarmoire_model::baseline::tables::{prepare, prepare_as_listed};
 use ruffarmoire_model::gen::Random;
 
+use crate::baseline::tables::{prepare, prepare_as_listed};
 use crate::library;
 use crate::table_buffers::TableBuffers;
 use crate::timing::{medians, Timed};

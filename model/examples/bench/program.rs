@@ -6,16 +6,20 @@ use std::io::{Read, Write};
 use std::path::{Path, PathBuf};
 use std::process::{Command, Stdio};
 
-use ruffarmoire_model::baseline::report::{seek_report, MAX_REPORT};
 use ruffarmoire_model::gen::{Random, Shape};
 use ruffarmoire_model::job::{self, Job};
 use ruffarmoire_model::seek::seek;
+use ruffarmoire_model::MAX_TEXT;
 
+use crate::baseline::report::seek_report;
 use crate::seek_program::PROGRAM;
 use crate::timing::{medians, Timed};
 
 /// The word that makes this program do what SEEK does.
 pub const AS_SEEK: &str = "--as-seek";
+
+/// The most bytes that a report has.
+const MAX_REPORT: usize = 23 + 5 * MAX_TEXT + 5 * MAX_TEXT;
 
 /// Does what SEEK does, by the plain Rust versions of the calls.
 pub fn be_seek() {

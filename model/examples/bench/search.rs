@@ -7,9 +7,9 @@ use std::cell::RefCell;
 use std::hint::black_box;
 
 use ruffarmoire_model::answers::Answer;
-use ruffarmoire_model::baseline::matcher;
 use ruffarmoire_model::gen::Random;
 
+use crate::baseline::matcher;
 use crate::library;
 use crate::table_buffers::TableBuffers;
 use crate::timing::{differences, medians, Timed};

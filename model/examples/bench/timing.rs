@@ -118,8 +118,8 @@ pub fn differences<const N: usize>(mut pairs: [[Timed; 2]; N]) -> [f64; N] {
     let mut samples: Vec<[[f64; 2]; N]> = Vec::new();
     for turn in 0..turns {
         let mut taken = [[0.0; 2]; N];
-        for place in 0..N {
-            let which = (turn / 2 + place) % N;
+        for offset in 0..N {
+            let which = (turn / 2 + offset) % N;
             for part in [turn % 2, 1 - turn % 2] {
                 let timed = &mut pairs[which][part];
                 timed.run(1);
@@ -157,8 +157,8 @@ pub fn medians<const N: usize>(mut all: [Timed; N]) -> [f64; N] {
     let mut samples = [const { Vec::new() }; N];
     for turn in 0..WARM_UP + TURNS {
         // Who goes first changes from turn to turn.
-        for place in 0..N {
-            let which = (turn + place) % N;
+        for offset in 0..N {
+            let which = (turn + offset) % N;
             if turn < WARM_UP && first[which] > LONG_SAMPLE || turn % turns_apart[which] != 0 {
                 continue;
             }

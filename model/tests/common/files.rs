@@ -59,23 +59,23 @@ fn with_wrong_bytes(file: &[u8]) -> Vec<Vec<u8>> {
     const NO_LINE_ENDS: &[u8] = b"\r0 ";
     let last = file.len() - 1;
     let mut files = Vec::new();
-    let mut change = |place: usize, byte: u8| {
+    let mut change = |position: usize, byte: u8| {
         let mut changed = file.to_vec();
-        changed[place] = byte;
+        changed[position] = byte;
         files.push(changed);
     };
-    for (number, place) in [0, 3, 5, 9, 11, 12, 20, last - 2, last - 1]
+    for (number, position) in [0, 3, 5, 9, 11, 12, 20, last - 2, last - 1]
         .into_iter()
         .enumerate()
     {
-        // Three of the nine at each place.
+        // Three of the nine at each position.
         for byte in NO_DIGITS.iter().cycle().skip(2 * number).take(3) {
-            change(place, *byte);
+            change(position, *byte);
         }
     }
-    for place in [10, 13, last] {
+    for position in [10, 13, last] {
         for byte in NO_LINE_ENDS {
-            change(place, *byte);
+            change(position, *byte);
         }
     }
     files

@@ -2,15 +2,13 @@
 
 use std::fmt::Debug;
 
-use ruffarmoire_model::calls;
-
 /// The tests of one suite on one implementation of its calls.
 macro_rules! tests_of {
     ($suite:ident, $calls:ty: $($test:ident,)*) => {
         $(
             #[test]
             fn $test() {
-                crate::$suite::$test::<$calls>();
+                crate::common::$suite::$test::<$calls>();
             }
         )*
     };
@@ -39,7 +37,7 @@ entries!(u8 u16 i16);
 /// Entries on either side of a buffer that no call may touch.
 pub const MARGIN: usize = 16;
 
-/// A buffer with a margin on either side. What it holds at first differs from place to place.
+/// A buffer with a margin on either side. What it holds at first differs from entry to entry.
 #[derive(Clone, PartialEq)]
 pub struct Buffer<T> {
     entries: Vec<T>,
@@ -49,7 +47,7 @@ impl<T: Entry> Buffer<T> {
     /// Two seeds that differ by less than 256 give entries that differ everywhere.
     pub fn junk(length: usize, seed: usize) -> Buffer<T> {
         let entries = (0..length + 2 * MARGIN)
-            .map(|place| T::of(place * 40_503 + place / 256 * 59 + seed))
+            .map(|index| T::of(index * 40_503 + index / 256 * 59 + seed))
             .collect();
         Buffer { entries }
     }
@@ -59,28 +57,32 @@ impl<T: Entry> Buffer<T> {
         &mut self.entries[MARGIN..end]
     }
 
-    /// The buffer after a call that puts these entries at its front.
+    /// The buffer after a call that puts these entries at its front. Past them it is as it was.
     pub fn after(mut self, front: &[T]) -> Buffer<T> {
-        let expected = calls::after(self.lent(), front);
-        self.lent().copy_from_slice(&expected);
+        self.lent()[..front.len()].copy_from_slice(front);
         self
     }
 
-    /// Tells the first place where two buffers differ, counted from the lent buffer's start.
+    /// Tells the first entry in which two buffers differ, counted from the lent buffer's start.
     pub fn expect(&self, expected: &Buffer<T>, name: &str, context: &dyn Fn() -> String) {
         if self != expected {
-            let place = (0..self.entries.len())
-                .find(|&place| self.entries[place] != expected.entries[place])
+            let index = (0..self.entries.len())
+                .find(|&index| self.entries[index] != expected.entries[index])
                 .expect("they differ");
             panic!(
                 "{name}: entry {} is {:02X?} and not {:02X?}; {}",
-                place as isize - MARGIN as isize,
-                self.entries[place],
-                expected.entries[place],
+                index as isize - MARGIN as isize,
+                self.entries[index],
+                expected.entries[index],
                 context()
             );
         }
     }
+}
+
+/// Sees that a buffer of zeros has a call's entries in front, and zeros behind them.
+pub fn expect_front<T: Entry>(buffer: &[T], front: &[T]) {
+    assert_eq!(buffer[..front.len() + 8], [front, &[T::of(0); 8]].concat());
 }
 
 /// The front of some bytes, for a message.
@@ -94,7 +96,7 @@ pub fn reserved<T: Entry>(length: usize) -> &'static mut [T] {
     use std::ffi::{c_int, c_void};
     extern "C" {
         fn mmap(
-            place: *mut c_void,
+            address: *mut c_void,
             length: usize,
             protection: c_int,
             flags: c_int,
@@ -104,10 +106,10 @@ pub fn reserved<T: Entry>(length: usize) -> &'static mut [T] {
     }
     const READ_AND_WRITE: c_int = 1 | 2;
     const PRIVATE_ANONYMOUS_WITHOUT_RESERVE: c_int = 0x02 | 0x20 | 0x4000;
-    // SAFETY: a fresh mapping at a place that the system chooses; it is kept until the process
+    // SAFETY: a fresh mapping at an address that the system chooses; it is kept until the process
     // ends, and nothing else refers to it. Zeros are entries of each kind.
     unsafe {
-        let place = mmap(
+        let address = mmap(
             std::ptr::null_mut(),
             length * size_of::<T>(),
             READ_AND_WRITE,
@@ -115,7 +117,7 @@ pub fn reserved<T: Entry>(length: usize) -> &'static mut [T] {
             -1,
             0,
         );
-        assert_ne!(place as isize, -1, "no address space of {length} entries");
-        std::slice::from_raw_parts_mut(place.cast(), length)
+        assert_ne!(address as isize, -1, "no address space of {length} entries");
+        std::slice::from_raw_parts_mut(address.cast(), length)
     }
 }

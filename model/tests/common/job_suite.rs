@@ -6,8 +6,8 @@ use ruffarmoire_model::calls;
 use ruffarmoire_model::gen::{Random, Shape, SHAPES};
 use ruffarmoire_model::job::{self, file_length, first_line, lines, Job};
 
-use crate::examples::example_jobs;
-use crate::harness::{reserved, shown, Buffer, MARGIN};
+use super::examples::example_jobs;
+use super::harness::{reserved, shown, Buffer, MARGIN};
 
 /// An implementation of the calls for job files.
 pub trait JobCalls {
@@ -258,9 +258,9 @@ pub fn order_of_refusals<T: JobCalls>() {
                         for wrong_first in [None, Some(0), Some(5), Some(10)] {
                             for wrong_rest in [None, Some(11), Some(length - 1)] {
                                 let mut faulty = sized.clone();
-                                for place in [wrong_first, wrong_rest].into_iter().flatten() {
-                                    if place < length {
-                                        faulty[place] = b'g';
+                                for position in [wrong_first, wrong_rest].into_iter().flatten() {
+                                    if position < length {
+                                        faulty[position] = b'g';
                                     }
                                 }
                                 for (pattern_length, text_length) in
@@ -351,10 +351,10 @@ pub fn changed_first_line<T: JobCalls>() {
     ];
     for job in jobs {
         let file = job::write(&job);
-        for place in 0..11 {
+        for position in 0..11 {
             for value in 0..=255 {
                 let mut changed = file.clone();
-                changed[place] = value;
+                changed[position] = value;
                 // Buffers for any length that is taken, so that no 7 hides another answer.
                 check_read_freely::<T>(&changed);
             }
@@ -368,12 +368,12 @@ pub fn changed_body<T: JobCalls>() {
     for job in [small_job(), Shape::AnyBytes.job(&mut random, 1, 1)] {
         let file = job::write(&job);
         let (m, n) = (job.pattern.len(), job.text.len());
-        for place in 11..file.len() {
+        for position in 11..file.len() {
             for value in 0..=255 {
                 let mut changed = file.clone();
-                changed[place] = value;
+                changed[position] = value;
                 let status = check_read::<T>(&changed, m + 1, n + 1).answer.status;
-                let due = if place % 3 == 1 {
+                let due = if position % 3 == 1 {
                     value == b'\n'
                 } else {
                     value.is_ascii_digit() || (b'A'..=b'F').contains(&value)
@@ -392,12 +392,12 @@ pub fn changed_largest_job<T: JobCalls>() {
     let mut random = Random::seeded(20);
     let file = job::write(&Shape::AnyBytes.job(&mut random, 128, 16_384));
     let last = file.len() - 1;
-    let mut places: Vec<usize> = (11..20).chain(390..400).chain(last - 8..=last).collect();
-    places.extend((0..100).map(|_| random.between(11, last)));
-    for place in places {
+    let mut positions: Vec<usize> = (11..20).chain(390..400).chain(last - 8..=last).collect();
+    positions.extend((0..100).map(|_| random.between(11, last)));
+    for position in positions {
         for value in [b'0', b'F', b'G', b'a', b'/', b':', b'@', b'\n', b'\r', 0] {
             let mut changed = file.clone();
-            changed[place] = value;
+            changed[position] = value;
             check_read::<T>(&changed, 128, 16_384);
         }
     }
@@ -456,10 +456,10 @@ pub fn lower_case_digits<T: JobCalls>() {
                 .status,
             2
         );
-        for place in 0..file.len() {
-            if file[place].is_ascii_uppercase() {
+        for position in 0..file.len() {
+            if file[position].is_ascii_uppercase() {
                 let mut changed = file.clone();
-                changed[place] = changed[place].to_ascii_lowercase();
+                changed[position] = changed[position].to_ascii_lowercase();
                 assert_eq!(check_read_freely::<T>(&changed).answer.status, 2);
             }
         }
@@ -514,8 +514,8 @@ pub fn random_files<T: JobCalls>() {
         };
         // In most rounds with line ends where they are due, and an edition that is taken.
         if round % 3 == 2 {
-            for place in (10..length).step_by(3) {
-                file[place] = b'\n';
+            for position in (10..length).step_by(3) {
+                file[position] = b'\n';
             }
             if length > 9 {
                 file[..9].copy_from_slice(b"010400000");

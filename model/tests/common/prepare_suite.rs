@@ -5,14 +5,14 @@ use ruffarmoire_model::answers::Answer;
 use ruffarmoire_model::calls::{self, Outcome, TableLengths};
 use ruffarmoire_model::gen::{Random, Shape, SHAPES};
 
-use crate::harness::{reserved, shown};
-use crate::table_buffers::{entries, longer, one_too_short, TableBuffers};
-use crate::words::{structured_words, words};
+use super::harness::{reserved, shown};
+use super::lengths::BufferLengths;
+use super::table_buffers::{longer, LentTables, TableBuffers};
+use super::words::{structured_words, words};
 
 /// An implementation of preparing a pattern.
 pub trait PrepareCalls {
-    fn prepare(pattern: &[u8], order: &mut [i16], delta2: &mut [u16], delta1: &mut [u16])
-        -> Answer;
+    fn prepare(pattern: &[u8], tables: LentTables) -> Answer;
 }
 
 /// A test program's tests: all of this module on one implementation.
@@ -38,16 +38,11 @@ macro_rules! prepare_suite {
 fn check_prepare<T: PrepareCalls>(pattern: &[u8], lengths: TableLengths) -> Outcome {
     let expected = calls::prepare(pattern, lengths);
     for before in TableBuffers::fillings(pattern.len(), lengths) {
-        let mut lent = before.clone();
-        let answer = T::prepare(
-            pattern,
-            lent.order.lent(),
-            lent.delta2.lent(),
-            lent.delta1.lent(),
-        );
+        let mut buffers = before.clone();
+        let answer = T::prepare(pattern, buffers.lent());
         let context = || format!("preparing {}, buffers {lengths:?}", shown(pattern));
         assert_eq!(answer, expected.answer, "{}", context());
-        lent.expect(&before.after(&expected), &context);
+        buffers.expect(&before.after(&expected), &context);
     }
     expected
 }
@@ -55,10 +50,11 @@ fn check_prepare<T: PrepareCalls>(pattern: &[u8], lengths: TableLengths) -> Outc
 /// A pattern within the limits, with buffers that are exact, longer, and one too short for each.
 fn check_pattern<T: PrepareCalls>(pattern: &[u8]) {
     let m = pattern.len();
-    let exact = check_prepare::<T>(pattern, TableLengths::needed(m));
+    let needed = TableLengths::needed(m);
+    let exact = check_prepare::<T>(pattern, needed);
     assert_eq!(exact.answer, Answer::default());
     assert_eq!(check_prepare::<T>(pattern, longer(m)), exact);
-    for lengths in one_too_short(m) {
+    for lengths in needed.one_too_short(needed) {
         assert_eq!(check_prepare::<T>(pattern, lengths).answer.status, 7);
     }
 }
@@ -124,22 +120,23 @@ pub fn every_length<T: PrepareCalls>() {
 pub fn longest_patterns<T: PrepareCalls>() {
     let mut random = Random::seeded(44);
     for m in [127, 128] {
+        let needed = TableLengths::needed(m);
         for shape in SHAPES {
-            for lengths in [TableLengths::needed(m), longer(m)] {
+            for lengths in [needed, longer(m)] {
                 let (pattern, _) = shape.pattern_and_text(&mut random, m, 0);
                 check_prepare::<T>(&pattern, lengths);
-                for lengths in one_too_short(m) {
-                    assert_eq!(check_prepare::<T>(&pattern, lengths).answer.status, 7);
+                for short in lengths.one_too_short(needed) {
+                    assert_eq!(check_prepare::<T>(&pattern, short).answer.status, 7);
                 }
             }
         }
     }
-    // Each byte once; one byte throughout, but for one place.
+    // Each byte once; one byte throughout, but for one position.
     let risen: Vec<u8> = (128..=255).collect();
     check_prepare::<T>(&risen, TableLengths::needed(128));
-    for place in [0, 1, 63, 64, 126, 127] {
+    for position in [0, 1, 63, 64, 126, 127] {
         let mut pattern = vec![0x18; 128];
-        pattern[place] = 0xE7;
+        pattern[position] = 0xE7;
         check_prepare::<T>(&pattern, TableLengths::needed(128));
     }
     for period in [1, 2, 3, 43, 64, 127] {
@@ -165,19 +162,15 @@ pub fn buffers_around_the_needed_lengths<T: PrepareCalls>() {
     let mut random = Random::seeded(45);
     for m in [1, 2, 5] {
         let (pattern, _) = Shape::FewBytes.pattern_and_text(&mut random, m, 0);
-        for order in 0..m + 4 {
-            for delta2 in 0..m + 4 {
-                for delta1 in [0, 1, m, 256 * m - 1, 256 * m, 256 * m + 1, 256 * (m + 1)] {
-                    let lengths = TableLengths {
-                        order,
-                        delta1,
-                        delta2,
-                    };
-                    let enough = order > m && delta2 > m && delta1 >= 256 * m;
-                    let answer = check_prepare::<T>(&pattern, lengths).answer;
-                    assert_eq!(answer.status, if enough { 0 } else { 7 });
-                }
-            }
+        let needed = TableLengths::needed(m);
+        let around = |length: usize| {
+            let mut given: Vec<usize> = (0..m + 4).collect();
+            given.extend([length - 1, length, length + 1, length + 256]);
+            given
+        };
+        for lengths in needed.choices(around) {
+            let status = if lengths.are_enough(needed) { 0 } else { 7 };
+            assert_eq!(check_prepare::<T>(&pattern, lengths).answer.status, status);
         }
     }
 }
@@ -185,18 +178,11 @@ pub fn buffers_around_the_needed_lengths<T: PrepareCalls>() {
 /// Patterns of no byte and of more than 128, whatever the buffers.
 pub fn refused_lengths<T: PrepareCalls>() {
     let mut random = Random::seeded(46);
-    let none = TableLengths {
-        order: 0,
-        delta1: 0,
-        delta2: 0,
-    };
+    let enough = TableLengths::needed(128);
+    let none = enough.changed(|_| 0);
     for m in [0, 129, 130, 255, 256, 257, 384, 65_536, 65_537, 65_664] {
         let pattern = random.bytes(m);
-        for lengths in [
-            none,
-            TableLengths::needed(128),
-            TableLengths::needed(m % 256),
-        ] {
+        for lengths in [none, enough, TableLengths::needed(m % 256)] {
             assert_eq!(check_prepare::<T>(&pattern, lengths).answer.status, 4);
         }
         if m < 400 {
@@ -210,22 +196,17 @@ pub fn refused_lengths<T: PrepareCalls>() {
 pub fn tables_left_by_another_pattern<T: PrepareCalls>() {
     let mut random = Random::seeded(47);
     let lengths = longer(24);
-    let [mut lent, _] = TableBuffers::fillings(24, lengths);
-    let mut expected = lent.clone();
+    let [mut buffers, _] = TableBuffers::fillings(24, lengths);
+    let mut expected = buffers.clone();
     for round in 0..200 {
         let m = random.between(1, 24);
         let (pattern, _) = SHAPES[round % SHAPES.len()].pattern_and_text(&mut random, m, 0);
         let outcome = calls::prepare(&pattern, lengths);
-        let answer = T::prepare(
-            &pattern,
-            lent.order.lent(),
-            lent.delta2.lent(),
-            lent.delta1.lent(),
-        );
+        let answer = T::prepare(&pattern, buffers.lent());
         let context = || format!("preparing {} after others", shown(&pattern));
         assert_eq!(answer, outcome.answer, "{}", context());
         expected = expected.after(&outcome);
-        lent.expect(&expected, &context);
+        buffers.expect(&expected, &context);
     }
 }
 
@@ -234,41 +215,14 @@ pub fn lengths_beyond_32_bits<T: PrepareCalls>() {
     const BEYOND: usize = 1 << 32;
     let pattern = [0x06, 0x06, 0x18, 0x06, 0x06];
     let m = pattern.len();
-    let expected = calls::prepare(&pattern, TableLengths::needed(m));
-    let (delta2, delta1) = (entries(&expected.delta2), entries(&expected.delta1));
-    let fresh = || (vec![-7; m + 1], vec![7; m + 1], vec![7; 256 * m]);
+    let needed = TableLengths::needed(m);
+    let long = reserved(BEYOND + m);
+    long[..m].copy_from_slice(&pattern);
+    assert_eq!(check_prepare::<T>(long, needed).answer.status, 4);
 
-    let (mut order, mut delta2_lent, mut delta1_lent) = fresh();
-    let long_pattern = reserved(BEYOND + m);
-    long_pattern[..m].copy_from_slice(&pattern);
-    let answer = T::prepare(long_pattern, &mut order, &mut delta2_lent, &mut delta1_lent);
-    assert_eq!(
-        answer,
-        calls::prepare(long_pattern, TableLengths::needed(m)).answer
-    );
-    assert_eq!(answer.status, 4);
-    assert_eq!((order, delta2_lent, delta1_lent), fresh());
-
-    // A buffer of which nothing would be left in 32 bits is longer than needed, and that is fine.
-    let (mut order, mut delta2_lent, mut delta1_lent) = fresh();
-    let long_order = reserved(BEYOND);
-    let answer = T::prepare(&pattern, long_order, &mut delta2_lent, &mut delta1_lent);
-    assert_eq!(answer, expected.answer);
-    assert_eq!(long_order[..m + 1], expected.order);
-    assert_eq!(long_order[m + 1..m + 9], [0; 8]);
-    assert_eq!((&delta2_lent, &delta1_lent), (&delta2, &delta1));
-
-    let long = reserved(BEYOND);
-    let answer = T::prepare(&pattern, &mut order, long, &mut delta1_lent);
-    assert_eq!(answer, expected.answer);
-    assert_eq!(long[..m + 1], delta2);
-    assert_eq!(long[m + 1..m + 9], [0; 8]);
-    assert_eq!((&order, &delta1_lent), (&expected.order, &delta1));
-
-    long[..m + 1].fill(0);
-    let answer = T::prepare(&pattern, &mut order, &mut delta2_lent, long);
-    assert_eq!(answer, expected.answer);
-    assert_eq!(long[..256 * m], delta1);
-    assert_eq!(long[256 * m..256 * m + 8], [0; 8]);
-    assert_eq!((&order, &delta2_lent), (&expected.order, &delta2));
+    // Buffers of which nothing would be left in 32 bits are longer than needed, and that is fine.
+    let mut tables = LentTables::reserved(BEYOND);
+    let expected = calls::prepare(&pattern, needed);
+    assert_eq!(T::prepare(&pattern, tables.lent()), expected.answer);
+    tables.expect_front(&expected);
 }

@@ -6,9 +6,9 @@ use ruffarmoire_model::calls;
 use ruffarmoire_model::gen::{Random, SHAPES};
 use ruffarmoire_model::job::{self, Job};
 
-use crate::examples::example_jobs;
-use crate::files::{largest_job, small_job, spoiled_files};
-use crate::harness::{reserved, shown, Buffer};
+use super::examples::example_jobs;
+use super::files::{largest_job, small_job, spoiled_files};
+use super::harness::{reserved, shown, Buffer};
 
 /// An implementation of writing SEEK's report.
 pub trait ReportCalls {
@@ -151,10 +151,10 @@ pub fn cut_jobs<T: ReportCalls>() {
 /// Each byte of a small job changed to each of the 256 values.
 pub fn changed_jobs<T: ReportCalls>() {
     let file = job::write(&small_job());
-    for place in 0..file.len() {
+    for position in 0..file.len() {
         for value in 0..=255 {
             let mut changed = file.clone();
-            changed[place] = value;
+            changed[position] = value;
             check_report::<T>(&changed, 200);
         }
     }

@@ -2,7 +2,7 @@
 
 use ruffarmoire_model::gen::{Random, Shape, SHAPES};
 
-use crate::words::{structured_words, words};
+use super::words::{structured_words, words};
 
 /// A pattern and a text.
 pub type Pair = (Vec<u8>, Vec<u8>);

@@ -1,9 +1,10 @@
-//! The caller's buffers for the tables of a pattern.
+//! The caller's buffers for the tables of a pattern. What lists the tables one by one is here.
 
 use ruffarmoire_model::calls::{Outcome, TableLengths};
 use ruffarmoire_model::MAX_PATTERN;
 
-use crate::harness::{Buffer, Entry};
+use super::harness::{expect_front, reserved, Buffer, Entry};
+use super::lengths::BufferLengths;
 
 /// The model's numbers as entries of a buffer.
 pub fn entries(numbers: &[usize]) -> Vec<u16> {
@@ -13,35 +14,65 @@ pub fn entries(numbers: &[usize]) -> Vec<u16> {
         .collect()
 }
 
+impl BufferLengths for TableLengths {
+    fn each(&mut self) -> Vec<&mut usize> {
+        vec![&mut self.order, &mut self.delta2, &mut self.delta1]
+    }
+}
+
 /// Lengths that are longer than a pattern of m bytes needs.
 pub fn longer(m: usize) -> TableLengths {
     TableLengths {
         order: m + 2,
-        delta1: 256 * m + 300,
         delta2: m + 40,
+        delta1: 256 * m + 300,
     }
 }
 
-/// The lengths that a pattern of m bytes needs, but for one buffer that is one entry too short.
-pub fn one_too_short(m: usize) -> [TableLengths; 3] {
-    let needed = TableLengths::needed(m);
-    let mut all = [needed; 3];
-    all[0].order -= 1;
-    all[1].delta1 -= 1;
-    all[2].delta2 -= 1;
-    all
+/// The buffers as a call is lent them.
+pub struct LentTables<'a> {
+    pub order: &'a mut [i16],
+    pub delta2: &'a mut [u16],
+    pub delta1: &'a mut [u16],
+}
+
+impl LentTables<'_> {
+    /// Buffers of this length that are all zeros and take memory only where they are touched.
+    pub fn reserved(length: usize) -> LentTables<'static> {
+        LentTables {
+            order: reserved(length),
+            delta2: reserved(length),
+            delta1: reserved(length),
+        }
+    }
+
+    /// The same buffers, lent on.
+    pub fn lent(&mut self) -> LentTables<'_> {
+        LentTables {
+            order: self.order,
+            delta2: self.delta2,
+            delta1: self.delta1,
+        }
+    }
+
+    /// Sees that buffers of zeros have a call's entries in front, and zeros behind them.
+    pub fn expect_front(&self, outcome: &Outcome) {
+        expect_front(self.order, &outcome.order);
+        expect_front(self.delta2, &entries(&outcome.delta2));
+        expect_front(self.delta1, &entries(&outcome.delta1));
+    }
 }
 
 #[derive(Clone)]
 pub struct TableBuffers {
-    pub order: Buffer<i16>,
-    pub delta2: Buffer<u16>,
-    pub delta1: Buffer<u16>,
+    order: Buffer<i16>,
+    delta2: Buffer<u16>,
+    delta1: Buffer<u16>,
 }
 
 impl TableBuffers {
     /// Two fillings for a pattern of m bytes: junk, and tables that look right and are wrong, with
-    /// the places from the last down and every shift m. An entry that is left by chance as it
+    /// the positions from the last down and every shift m. An entry that is left by chance as it
     /// should be is seen in one of them.
     pub fn fillings(m: usize, lengths: TableLengths) -> [TableBuffers; 2] {
         // A pattern that is too long has no tables; then some of the longest that there are.
@@ -51,7 +82,11 @@ impl TableBuffers {
         let mut delta2 = vec![shift; m + 1];
         delta2[0] = 0;
         [
-            TableBuffers::junk(lengths, m),
+            TableBuffers {
+                order: Buffer::junk(lengths.order, m),
+                delta2: Buffer::junk(lengths.delta2, m + 7),
+                delta1: Buffer::junk(lengths.delta1, m + 14),
+            },
             TableBuffers {
                 order: looking_like(&order, lengths.order, m + 101),
                 delta2: looking_like(&delta2, lengths.delta2, m + 108),
@@ -60,11 +95,11 @@ impl TableBuffers {
         ]
     }
 
-    fn junk(lengths: TableLengths, seed: usize) -> TableBuffers {
-        TableBuffers {
-            order: Buffer::junk(lengths.order, seed),
-            delta2: Buffer::junk(lengths.delta2, seed + 7),
-            delta1: Buffer::junk(lengths.delta1, seed + 14),
+    pub fn lent(&mut self) -> LentTables<'_> {
+        LentTables {
+            order: self.order.lent(),
+            delta2: self.delta2.lent(),
+            delta1: self.delta1.lent(),
         }
     }
 

@@ -28,7 +28,7 @@ pub fn structured_words(length: usize) -> Vec<Vec<u8>> {
         &|letter| vec![0, 1 - letter],
     ];
     let mut made: Vec<Vec<u8>> = rules.iter().map(|rule| grown(rule, length)).collect();
-    let runs = (1..).flat_map(|run| (0..=run).map(move |place| u8::from(place == run)));
+    let runs = (1..).flat_map(|run| (0..=run).map(move |position| u8::from(position == run)));
     made.push(runs.take(length).collect());
     made
 }

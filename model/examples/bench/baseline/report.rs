@@ -1,12 +1,10 @@
 //! What SEEK prints.
 
+use ruffarmoire_model::answers::{Answer, Refusal, ReportAnswer};
+use ruffarmoire_model::{MAX_PATTERN, MAX_TEXT};
+
 use super::converter::convert;
 use super::job::{read_job, DIGIT_PAIRS};
-use crate::answers::{Answer, Refusal, ReportAnswer};
-use crate::{MAX_PATTERN, MAX_TEXT};
-
-/// The most bytes that a report has.
-pub const MAX_REPORT: usize = 23 + 5 * MAX_TEXT + 5 * MAX_TEXT;
 
 /// Writes what SEEK prints for a file.
 pub fn seek_report(file: &[u8], out: &mut [u8]) -> ReportAnswer {

@@ -1,6 +1,6 @@
 //! Plain Rust versions of the library's calls, each with the same contract, written for speed: the
-//! benchmark runs them beside the library, and the library's own tests are run on them too. The
-//! model does not use them.
+//! benchmark runs them beside the library, and the library's own tests are run on them too. Of the
+//! model they use only the answers and the limits.
 
 pub mod converter;
 pub mod job;

@@ -1,10 +1,11 @@
 //! Converting a text to frames, and counting ones.
 
+use ruffarmoire_model::answers::{Answer, Refusal};
+use ruffarmoire_model::convert::HOLD;
+use ruffarmoire_model::{MAX_PATTERN, MAX_TEXT};
+
 use super::matcher::run;
 use super::tables::{are_too_short, write_tables};
-use crate::answers::{Answer, Refusal};
-use crate::convert::HOLD;
-use crate::{MAX_PATTERN, MAX_TEXT};
 
 /// Converts a text to frames.
 #[allow(clippy::too_many_arguments)]

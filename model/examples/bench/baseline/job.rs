@@ -1,7 +1,7 @@
 //! Reading and writing job files.
 
-use crate::answers::{Answer, ReadAnswer, Refusal, WriteAnswer};
-use crate::{MAX_PATTERN, MAX_TEXT};
+use ruffarmoire_model::answers::{Answer, ReadAnswer, Refusal, WriteAnswer};
+use ruffarmoire_model::{MAX_PATTERN, MAX_TEXT};
 
 /// What [`DIGIT_VALUES`] holds for a byte that is no digit.
 const NO_DIGIT: u8 = 0xFF;
@@ -42,11 +42,12 @@ pub fn read_job(file: &[u8], pattern: &mut [u8], text: &mut [u8]) -> ReadAnswer 
 
 fn try_read_job(file: &[u8], pattern: &mut [u8], text: &mut [u8]) -> Result<ReadAnswer, Refusal> {
     let (first, rest) = file.split_first_chunk::<11>().ok_or(Refusal::FileLength)?;
-    let digits: [u8; 10] = std::array::from_fn(|place| value(first[place]));
+    let digits: [u8; 10] = std::array::from_fn(|position| value(first[position]));
     if digits.contains(&NO_DIGIT) || first[10] != b'\n' {
         return Err(Refusal::Byte);
     }
-    let pair = |place: usize| usize::from(digits[place]) << 4 | usize::from(digits[place + 1]);
+    let pair =
+        |position: usize| usize::from(digits[position]) << 4 | usize::from(digits[position + 1]);
     let (edition, m, q, n) = (pair(0), pair(2), pair(4), pair(6) << 8 | pair(8));
     if edition != 1 {
         return Err(Refusal::Edition);

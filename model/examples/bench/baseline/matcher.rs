@@ -3,9 +3,10 @@
 
 use std::ffi::c_void;
 
+use ruffarmoire_model::answers::{Answer, Refusal};
+use ruffarmoire_model::{MAX_PATTERN, MAX_TEXT};
+
 use super::tables::{are_too_short, write_tables};
-use crate::answers::{Answer, Refusal};
-use crate::{MAX_PATTERN, MAX_TEXT};
 
 /// Searches a text for a pattern by the steps.
 pub fn search(
@@ -104,8 +105,8 @@ extern "C" {
 }
 
 /// The number of occurrences, which go to the front of `found`: each is where `memmem` finds the
-/// pattern next, begun again one place on. The pattern is not empty, and `found` has an entry for
-/// each byte of the text.
+/// pattern next, begun again one position on. The pattern is not empty, and `found` has an entry
+/// for each byte of the text.
 pub fn occurrences_by_memmem(pattern: &[u8], text: &[u8], found: &mut [u16]) -> usize {
     let found = &mut found[..text.len()];
     let mut count = 0;
@@ -113,7 +114,7 @@ pub fn occurrences_by_memmem(pattern: &[u8], text: &[u8], found: &mut [u16]) -> 
     while from < text.len() {
         let rest = &text[from..];
         // SAFETY: each pointer and length is that of a slice.
-        let place = unsafe {
+        let next = unsafe {
             memmem(
                 rest.as_ptr().cast(),
                 rest.len(),
@@ -121,10 +122,10 @@ pub fn occurrences_by_memmem(pattern: &[u8], text: &[u8], found: &mut [u16]) -> 
                 pattern.len(),
             )
         };
-        if place.is_null() {
+        if next.is_null() {
             break;
         }
-        from = place as usize - text.as_ptr() as usize;
+        from = next as usize - text.as_ptr() as usize;
         found[count] = from as u16;
         count += 1;
         from += 1;
@@ -132,7 +133,8 @@ pub fn occurrences_by_memmem(pattern: &[u8], text: &[u8], found: &mut [u16]) -> 
     count
 }
 
-/// The same by a plain scan: at each place the pattern's first byte, and where it agrees the rest.
+/// The same by a plain scan: at each position the pattern's first byte, and the rest where it
+/// agrees.
 pub fn occurrences_by_scan(pattern: &[u8], text: &[u8], found: &mut [u16]) -> usize {
     let found = &mut found[..text.len()];
     let (first, rest) = pattern.split_first().expect("the pattern is not empty");

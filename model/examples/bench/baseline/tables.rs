@@ -2,8 +2,8 @@
 //! section 5; Δ1 either by sweeps over the rows of the bytes that the pattern has, or by that
 //! section's own listing.
 
-use crate::answers::{Answer, Refusal};
-use crate::MAX_PATTERN;
+use ruffarmoire_model::answers::{Answer, Refusal};
+use ruffarmoire_model::MAX_PATTERN;
 
 /// Prepares a pattern, Δ1 by sweeps.
 pub fn prepare(
@@ -68,16 +68,16 @@ pub(super) unsafe fn write_tables(
     write_delta1(pattern, delta1);
 }
 
-/// Entry `place`, unchecked.
-unsafe fn at<T: Copy>(entries: &[T], place: usize) -> T {
-    debug_assert!(place < entries.len());
-    *entries.get_unchecked(place)
+/// Entry `index`, unchecked.
+unsafe fn at<T: Copy>(entries: &[T], index: usize) -> T {
+    debug_assert!(index < entries.len());
+    *entries.get_unchecked(index)
 }
 
-/// Makes entry `place` this value, unchecked.
-unsafe fn put<T>(entries: &mut [T], place: usize, value: T) {
-    debug_assert!(place < entries.len());
-    *entries.get_unchecked_mut(place) = value;
+/// Makes entry `index` this value, unchecked.
+unsafe fn put<T>(entries: &mut [T], index: usize, value: T) {
+    debug_assert!(index < entries.len());
+    *entries.get_unchecked_mut(index) = value;
 }
 
 /// The listings for h_min, k_min, r_min, the order and Δ2.
@@ -150,8 +150,8 @@ unsafe fn write_order_and_delta2(w: &[u8], order: &mut [i16], delta2: &mut [u16]
     put(delta2, m, u16::from(at(&r_min, 0)));
 }
 
-/// Δ1: every row is filled with m; then each place below m - 1 lowers the row of its byte to its
-/// shift, wherever the last shift allows that.
+/// Δ1: every row is filled with m; then each position below m - 1 lowers the row of its byte to
+/// its shift, wherever the last shift allows that.
 unsafe fn write_delta1(w: &[u8], delta1: &mut [u16]) {
     let m = w.len();
     let table = delta1.get_unchecked_mut(..256 * m);
@@ -162,8 +162,8 @@ unsafe fn write_delta1(w: &[u8], delta1: &mut [u16]) {
         put(&mut reversed, i, at(w, m - 1 - i));
     }
 
-    // The last place below m - 1 of each byte, and the place before with the same byte, both one
-    // up, with 0 for none.
+    // The last position below m - 1 of each byte, and the position before with the same byte, both
+    // one up, with 0 for none.
     let mut last = [0_u8; 256];
     let mut link = [0_u8; 129];
     for i in 0..m - 1 {
@@ -176,10 +176,10 @@ unsafe fn write_delta1(w: &[u8], delta1: &mut [u16]) {
         let c = usize::from(at(w, i));
         if usize::from(at(&last, c)) == i + 1 {
             let row = table.get_unchecked_mut(c * m..c * m + m);
-            let mut place = i + 1;
-            while place > 0 {
-                lower_row(&reversed, m - place, row);
-                place = usize::from(at(&link, place));
+            let mut position = i + 1;
+            while position > 0 {
+                lower_row(&reversed, m - position, row);
+                position = usize::from(at(&link, position));
             }
         }
     }
@@ -204,7 +204,7 @@ unsafe fn lower_row(reversed: &[u8; MAX_PATTERN], shift: usize, row: &mut [u16])
     }
 }
 
-/// Δ1 by the listing of document 002: for each byte c and shift s, two places go down along the
+/// Δ1 by the listing of document 002: for each byte c and shift s, two positions go down along the
 /// links of their bytes until they are s apart.
 unsafe fn write_delta1_as_listed(w: &[u8], delta1: &mut [u16]) {
     let m = w.len() as isize;

@@ -1,0 +1,29 @@
+//! What the test programs share: what is asked of an implementation of each call, with the cases
+//! and the buffers for it.
+
+// A test program uses only what it tests.
+#![allow(dead_code, unused_macros)]
+
+#[macro_use]
+pub mod harness;
+
+pub mod examples;
+pub mod files;
+pub mod lengths;
+pub mod searches;
+pub mod table_buffers;
+pub mod words;
+
+#[macro_use]
+pub mod searching;
+
+#[macro_use]
+pub mod converter_suite;
+#[macro_use]
+pub mod job_suite;
+#[macro_use]
+pub mod matcher_suite;
+#[macro_use]
+pub mod prepare_suite;
+#[macro_use]
+pub mod report_suite;

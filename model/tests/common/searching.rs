@@ -1,0 +1,420 @@
+//! What is asked of every call that searches, for any implementation of it. Each call is held to
+//! the model: its whole answer, and every entry of every buffer.
+//!
+//! Such a call takes a pattern and a text, the buffers for the tables and one for the occurrences.
+//! Some take a hold offset too, and some a buffer for frames.
+
+use std::collections::BTreeSet;
+use std::fmt::{self, Debug, Display, Formatter};
+
+use ruffarmoire_model::calls::{Outcome, TableLengths};
+use ruffarmoire_model::gen::{Random, Shape};
+
+use super::examples::example_jobs;
+use super::harness::{expect_front, reserved, shown, Buffer};
+use super::lengths::BufferLengths;
+use super::searches::{self, Pair};
+use super::table_buffers::{entries, longer, LentTables, TableBuffers};
+
+/// A call that searches.
+pub trait SearchingCall {
+    /// What it answers.
+    type Answer: Debug + PartialEq;
+
+    /// Whether it takes a hold offset.
+    const TAKES_HOLD: bool;
+
+    /// Whether it takes a buffer for frames.
+    const TAKES_FRAMES: bool;
+
+    fn call(input: Input, lent: Lent) -> Self::Answer;
+
+    /// What the model answers, and what it leaves in buffers of these lengths.
+    fn model(input: Input, lengths: Lengths) -> (Self::Answer, Outcome);
+}
+
+/// The tests of one call that searches.
+macro_rules! searching_tests {
+    ($call:ty) => {
+        tests_of!(searching, $call:
+            all_short_texts,
+            short_texts,
+            longer_texts,
+            largest_texts,
+            structured_texts,
+            texts_about_as_long_as_the_pattern,
+            every_byte_in_every_role,
+            buffers_around_the_needed_lengths,
+            refusals_at_their_edges,
+            order_of_refusals,
+            buffers_left_by_another_call,
+            lengths_beyond_32_bits,
+        );
+    };
+}
+
+/// What a call is handed beside its buffers. One that takes no hold offset leaves it alone.
+#[derive(Clone, Copy)]
+pub struct Input<'a> {
+    pub hold: u32,
+    pub pattern: &'a [u8],
+    pub text: &'a [u8],
+}
+
+impl<'a> Input<'a> {
+    pub fn new(hold: u32, pattern: &'a [u8], text: &'a [u8]) -> Input<'a> {
+        Input {
+            hold,
+            pattern,
+            text,
+        }
+    }
+
+    /// The lengths that its buffers need.
+    fn needed<T: SearchingCall>(self) -> Lengths {
+        Lengths::needed::<T>(self.pattern.len(), self.text.len())
+    }
+}
+
+impl Display for Input<'_> {
+    fn fmt(&self, formatter: &mut Formatter) -> fmt::Result {
+        let (pattern, text) = (shown(self.pattern), shown(self.text));
+        write!(formatter, "pattern {pattern}, q {}, text {text}", self.hold)
+    }
+}
+
+/// The buffers as a call is lent them. One that takes no frames leaves those alone.
+pub struct Lent<'a> {
+    pub tables: LentTables<'a>,
+    pub found: &'a mut [u16],
+    pub frames: &'a mut [u16],
+}
+
+/// The lengths of the buffers, with none for frames where the call takes no frames.
+#[derive(Clone, Copy, Debug)]
+pub struct Lengths {
+    pub tables: TableLengths,
+    pub found: usize,
+    pub frames: Option<usize>,
+}
+
+impl BufferLengths for Lengths {
+    fn each(&mut self) -> Vec<&mut usize> {
+        let mut each = self.tables.each();
+        each.push(&mut self.found);
+        each.extend(&mut self.frames);
+        each
+    }
+}
+
+impl Lengths {
+    /// The lengths that a pattern of m bytes and a text of n need.
+    fn needed<T: SearchingCall>(m: usize, n: usize) -> Lengths {
+        Lengths {
+            tables: TableLengths::needed(m),
+            found: n,
+            frames: T::TAKES_FRAMES.then_some(n),
+        }
+    }
+
+    fn longer<T: SearchingCall>(m: usize, n: usize) -> Lengths {
+        Lengths {
+            tables: longer(m),
+            found: n + 9,
+            frames: T::TAKES_FRAMES.then_some(n + 6),
+        }
+    }
+}
+
+/// The caller's buffers.
+#[derive(Clone)]
+struct Buffers {
+    tables: TableBuffers,
+    found: Buffer<u16>,
+    frames: Buffer<u16>,
+}
+
+impl Buffers {
+    /// Two fillings for a pattern of m bytes and a text of n: an entry that is left by chance as it
+    /// should be is seen in one of them.
+    fn fillings(m: usize, n: usize, lengths: Lengths) -> [Buffers; 2] {
+        let [junk, wrong] = TableBuffers::fillings(m, lengths.tables);
+        [(junk, n), (wrong, n + 101)].map(|(tables, seed)| Buffers {
+            tables,
+            found: Buffer::junk(lengths.found, seed),
+            frames: Buffer::junk(lengths.frames.unwrap_or(0), seed + 7),
+        })
+    }
+
+    fn lent(&mut self) -> Lent<'_> {
+        Lent {
+            tables: self.tables.lent(),
+            found: self.found.lent(),
+            frames: self.frames.lent(),
+        }
+    }
+
+    /// The buffers after a call with this outcome.
+    fn after(self, outcome: &Outcome) -> Buffers {
+        Buffers {
+            tables: self.tables.after(outcome),
+            found: self.found.after(&entries(&outcome.occurrences)),
+            frames: self.frames.after(&outcome.frames),
+        }
+    }
+
+    fn expect(&self, expected: &Buffers, context: &dyn Fn() -> String) {
+        self.frames.expect(&expected.frames, "frames", context);
+        self.found.expect(&expected.found, "found", context);
+        self.tables.expect(&expected.tables, context);
+    }
+}
+
+/// Makes a call with buffers of these lengths and holds what comes of it to the model.
+fn check<T: SearchingCall>(input: Input, lengths: Lengths) -> Outcome {
+    let (answer, outcome) = T::model(input, lengths);
+    let context = || format!("{input}, buffers {lengths:?}");
+    for before in Buffers::fillings(input.pattern.len(), input.text.len(), lengths) {
+        let mut buffers = before.clone();
+        assert_eq!(T::call(input, buffers.lent()), answer, "{}", context());
+        buffers.expect(&before.after(&outcome), &context);
+    }
+    outcome
+}
+
+/// A call within the limits with the buffers that it needs.
+pub fn check_exact<T: SearchingCall>(input: Input) -> Outcome {
+    let outcome = check::<T>(input, input.needed::<T>());
+    assert_eq!(outcome.answer.status, 0);
+    outcome
+}
+
+/// The same with longer buffers, and with each one too short beside others that are exact or, for
+/// every other length of the text, longer.
+fn check_other_buffers<T: SearchingCall>(input: Input) {
+    let (m, n) = (input.pattern.len(), input.text.len());
+    let (needed, longer) = (input.needed::<T>(), Lengths::longer::<T>(m, n));
+    assert_eq!(check::<T>(input, longer).answer.status, 0);
+    for short in [needed, longer][n % 2].one_too_short(needed) {
+        assert_eq!(check::<T>(input, short).answer.status, 7);
+    }
+}
+
+/// The jobs of document 01's examples, with all kinds of buffers.
+pub fn check_examples<T: SearchingCall>() {
+    for job in example_jobs() {
+        let input = Input::new(job.hold as u32, &job.pattern, &job.text);
+        check_exact::<T>(input);
+        check_other_buffers::<T>(input);
+    }
+}
+
+/// Some patterns and texts, with the first hold offset, the last, and any, in turn.
+fn for_each<R>(pairs: impl Iterator<Item = Pair>, mut check: impl FnMut(Input) -> R) {
+    for (round, (pattern, text)) in pairs.enumerate() {
+        let m = pattern.len();
+        let hold = [0, m - 1, round / 3 % m][round % 3] as u32;
+        check(Input::new(hold, &pattern, &text));
+    }
+}
+
+pub fn all_short_texts<T: SearchingCall>() {
+    for_each(searches::all_short(), check_exact::<T>);
+}
+
+pub fn short_texts<T: SearchingCall>() {
+    for_each(searches::short(), |input| {
+        check_exact::<T>(input);
+        check_other_buffers::<T>(input);
+    });
+}
+
+pub fn longer_texts<T: SearchingCall>() {
+    for_each(searches::longer(), check_exact::<T>);
+}
+
+pub fn largest_texts<T: SearchingCall>() {
+    for_each(searches::largest(), check_exact::<T>);
+    let (pattern, text) = Shape::Periodic.pattern_and_text(&mut Random::seeded(61), 128, 16_384);
+    check_other_buffers::<T>(Input::new(127, &pattern, &text));
+}
+
+pub fn structured_texts<T: SearchingCall>() {
+    for_each(searches::structured(), check_exact::<T>);
+}
+
+pub fn texts_about_as_long_as_the_pattern<T: SearchingCall>() {
+    for_each(searches::about_as_long(), check_exact::<T>);
+}
+
+/// Each byte as one that occurs in the pattern and the text, and as one that only the text has.
+pub fn every_byte_in_every_role<T: SearchingCall>() {
+    let all: Vec<u8> = (0..=255).collect();
+    let check = |pattern: &[u8], text: &[u8]| {
+        let last = pattern.len() as u32 - 1;
+        check_exact::<T>(Input::new(last, pattern, text));
+    };
+    for &byte in &all {
+        let other = byte ^ 0x81;
+        check(&[byte], &all);
+        check(&[byte, other], &[byte, other, other, byte, byte, other]);
+        let text = [byte, other, byte, byte, other, byte, 0x55, byte, other];
+        check(&[other, byte, byte], &text);
+    }
+    for half in all.chunks(128) {
+        check(half, &all);
+    }
+}
+
+pub fn buffers_around_the_needed_lengths<T: SearchingCall>() {
+    let mut random = Random::seeded(62);
+    let around = |length: usize| vec![length.saturating_sub(1), length, length + 1];
+    for (m, n) in [(1, 0), (1, 1), (2, 5), (3, 3), (4, 2)] {
+        let (pattern, text) = Shape::Planted.pattern_and_text(&mut random, m, n);
+        let input = Input::new(0, &pattern, &text);
+        let needed = input.needed::<T>();
+        for lengths in needed.choices(around) {
+            let status = if lengths.are_enough(needed) { 0 } else { 7 };
+            assert_eq!(check::<T>(input, lengths).answer.status, status);
+        }
+    }
+}
+
+/// These hold offsets where the call takes one, and else only 0.
+fn holds<T: SearchingCall>(holds: &[u32]) -> &[u32] {
+    if T::TAKES_HOLD {
+        holds
+    } else {
+        &[0]
+    }
+}
+
+/// m at 0, 128, 129 and beyond, q at m - 1 and m, n at 16,384, 16,385 and beyond.
+pub fn refusals_at_their_edges<T: SearchingCall>() {
+    let bytes = Random::seeded(63).bytes(65_536 + 16_384);
+    for m in [0_usize, 1, 127, 128, 129, 256, 257, 384, 65_536, 65_537] {
+        for n in [0, 1, 16_384, 16_385, 32_768, 65_536, 65_537, 81_920] {
+            let (pattern, text) = (&bytes[..m], &bytes[..n]);
+            let lengths = Lengths::needed::<T>(m.min(384), n);
+            for &hold in holds::<T>(&[0, m.saturating_sub(1) as u32, m as u32, u32::MAX]) {
+                let status = match (m, n) {
+                    (0 | 129.., _) => 4,
+                    _ if hold as usize >= m => 5,
+                    (_, 16_385..) => 6,
+                    _ => 0,
+                };
+                let answer = check::<T>(Input::new(hold, pattern, text), lengths).answer;
+                assert_eq!(answer.status, status);
+            }
+        }
+    }
+}
+
+/// Several faults at once: 4, 5, 6, 7 is the order.
+pub fn order_of_refusals<T: SearchingCall>() {
+    let bytes = Random::seeded(64).bytes(16_385);
+    let mut seen = BTreeSet::new();
+    for m in [0, 1, 3, 128, 129] {
+        for n in [0, 2, 16_384, 16_385] {
+            let (pattern, text) = (&bytes[..m], &bytes[..n]);
+            for &hold in holds::<T>(&[0, m as u32, u32::MAX]) {
+                let input = Input::new(hold, pattern, text);
+                for lengths in faulty_lengths(input.needed::<T>()) {
+                    seen.insert(check::<T>(input, lengths).answer.status);
+                }
+            }
+        }
+    }
+    let with_hold: &[u32] = if T::TAKES_HOLD { &[5] } else { &[] };
+    let expected = [&[0, 4], with_hold, &[6, 7]].concat();
+    assert!(seen.iter().eq(&expected), "{seen:?}");
+}
+
+/// The needed lengths, each buffer alone one too short, all of them, and all of no entries.
+fn faulty_lengths(needed: Lengths) -> Vec<Lengths> {
+    let mut lengths = needed.one_too_short(needed);
+    lengths.push(needed);
+    lengths.push(needed.changed(|length| length.saturating_sub(1)));
+    lengths.push(needed.changed(|_| 0));
+    lengths
+}
+
+/// The buffers go from call to call with what the call before left in them.
+pub fn buffers_left_by_another_call<T: SearchingCall>() {
+    let lengths = Lengths::longer::<T>(12, 60);
+    let [mut buffers, _] = Buffers::fillings(12, 60, lengths);
+    let mut expected = buffers.clone();
+    for_each(searches::short(), |input| {
+        let (answer, outcome) = T::model(input, lengths);
+        let context = || format!("{input} after others");
+        assert_eq!(T::call(input, buffers.lent()), answer, "{}", context());
+        expected = expected.clone().after(&outcome);
+        buffers.expect(&expected, &context);
+    });
+}
+
+/// Lengths of more than 32 bits: none may be taken for what is left of it in 32.
+pub fn lengths_beyond_32_bits<T: SearchingCall>() {
+    const BEYOND: usize = 1 << 32;
+    let input = Input::new(1, &[0x06, 0x06], &[0x06, 0x06, 0x06, 0x18]);
+    let (m, n) = (input.pattern.len(), input.text.len());
+    let needed = input.needed::<T>();
+    let status = |input: Input| check::<T>(input, needed).answer.status;
+    let long = reserved(BEYOND + n);
+    long[..m].copy_from_slice(input.pattern);
+    let pattern = &long[..BEYOND + m];
+    assert_eq!(status(Input { pattern, ..input }), 4);
+    long[..n].copy_from_slice(input.text);
+    let text = &*long;
+    assert_eq!(status(Input { text, ..input }), 6);
+
+    // Buffers of which nothing would be left in 32 bits are longer than needed, and that is fine.
+    let mut tables = LentTables::reserved(BEYOND);
+    let (found, frames) = (reserved(BEYOND), reserved(BEYOND));
+    let (answer, outcome) = T::model(input, needed);
+    let lent = Lent {
+        tables: tables.lent(),
+        found,
+        frames,
+    };
+    assert_eq!(T::call(input, lent), answer);
+    tables.expect_front(&outcome);
+    expect_front(found, &entries(&outcome.occurrences));
+    expect_front(frames, &outcome.frames);
+}
+
+/// Hold offsets below m are taken; m, and such as would fit if some of their bits were dropped, are
+/// not. This is for a call that takes one.
+pub fn every_hold_offset<T: SearchingCall>() {
+    let mut random = Random::seeded(65);
+    for (shape, m, n) in [
+        (Shape::Planted, 1, 50),
+        (Shape::Planted, 2, 50),
+        (Shape::Planted, 5, 50),
+        (Shape::Planted, 13, 50),
+        (Shape::Overlapping, 128, 2_000),
+    ] {
+        let (pattern, text) = shape.pattern_and_text(&mut random, m, n);
+        let m = m as u32;
+        // All of a short pattern, the outermost of a long one.
+        for hold in (0..m).filter(|hold| *hold < 13 || *hold >= m - 2) {
+            check_exact::<T>(Input::new(hold, &pattern, &text));
+        }
+        for hold in [
+            m,
+            m + 1,
+            127.max(m),
+            128,
+            255,
+            256,
+            0x1_0000,
+            0x7FFF_FFFF,
+            0x8000_0000,
+            u32::MAX - 1,
+            u32::MAX,
+        ] {
+            let input = Input::new(hold, &pattern, &text);
+            assert_eq!(check::<T>(input, input.needed::<T>()).answer.status, 5);
+        }
+    }
+}
