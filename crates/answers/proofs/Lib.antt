@@ -1,3 +1,5 @@
+pub mod Bytes
 pub mod Fronts
 pub mod Refusals
-pub mod Written
+pub mod Answered
+pub mod Partly

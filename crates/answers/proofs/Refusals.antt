@@ -50,6 +50,21 @@ unfolding first-of
 same-past [] ss us h = h tt
 same-past (r ∷ rs) ss us h = same-test (r .holds) _ _ _ (λ e. same-past rs ss us (λ k. h (e, k)))
 
+-- conditions that are tested first, of which one holds, decide the status
+pub first-refused : (rs ss : List Refusal) {s : ℕ} → s ≡ first-of rs → (s ≡ 0 → ⊥) → s ≡ first-of (rs ++ ss)
+unfolding first-of
+first-refused rs ss tested h = tested ∙ rw append-nil at (same-past rs [] ss (λ none. absurd (h (tested ∙ none-done rs none))))
+
+-- and those of which none holds leave it to the others
+pub first-passed :
+    (rs ss : List Refusal) {s : ℕ} → Numbered rs → s ≡ first-of rs → s ≡ 0 → first-of (rs ++ ss) ≡ first-of ss
+first-passed rs ss numbered tested e = first-past rs ss (done-none rs numbered (sym tested ∙ e))
+
+-- two conditions of one number are one
+pub either : (a b : Bool) (number : ℕ) → cond a number (cond b number 0) ≡ cond (a || b) number 0
+either true b n = refl
+either false b n = refl
+
 -- an "or" that does not hold
 pub neither : (a b : Bool) → a || b ≡ false → (a ≡ false) × (b ≡ false)
 neither true b e = absurd (true≢false e)
@@ -64,9 +79,13 @@ pattern-within m e =
 pattern-fits : (m : ℕ) → 0 < m → m ≤ longest-pattern → pattern-refusal m .holds ≡ false
 pattern-fits m l h = rw (ne-eqb m 0 (omega arith)) (le-ltb longest-pattern m h)
 
+-- 6 does not hold: n is at most the longest
+pub text-within : (n : ℕ) → first-of (text-refusal n ∷ []) ≡ 0 → n ≤ longest-text
+text-within n e = ltb-false longest-text n (done-none (text-refusal n ∷ []) (omega arith) e .0)
+
 -- none of 4, 5 and 6 holds
 pub record Within-limits (m q n : ℕ) : Type 0 where
-  pub hold : q < m
+  pub hold-offset : q < m
   pub pattern : m ≤ longest-pattern
   pub text : n ≤ longest-text
 
@@ -77,28 +96,23 @@ module _ (m q n : ℕ) where
 
   pub limits-hold : {Rest : Type 0} → Job-none Rest → Within-limits m q n × Rest
   limits-hold h =
-      (record { hold = leb-false _ _ (h .1 .0); pattern = pattern-within m (h .0) .1; text = ltb-false _ _ (h .1 .1 .0) }, h .1 .1 .1)
+      (record { hold-offset = leb-false _ _ (h .1 .0); pattern = pattern-within m (h .0) .1; text = ltb-false _ _ (h .1 .1 .0) }, h .1 .1 .1)
 
   pub limits-none : {Rest : Type 0} → Within-limits m q n → Rest → Job-none Rest
-  limits-none l rest = (pattern-fits m (omega arith) (l .pattern), (lt-leb _ _ (l .hold), (le-ltb _ _ (l .text), rest)))
+  limits-none l rest = (pattern-fits m (omega arith) (l .pattern), (lt-leb _ _ (l .hold-offset), (le-ltb _ _ (l .text), rest)))
 
   -- a call that tests the three first, and finds this status
   module _ {s : ℕ} (tested : s ≡ first-of (job-refusals m q n)) where
     pub job-refused : (s ≡ 0 → ⊥) → (rs : List Refusal) → s ≡ first-of (job-refusals m q n ++ rs)
-    unfolding job-refusals
-    job-refused h rs =
-        tested ∙ same-past (job-refusals m q n) [] rs (λ none. absurd (h (tested ∙ none-done (job-refusals m q n) none)))
-
-    none-of-job : s ≡ 0 → None-holds (job-refusals m q n)
-    unfolding job-refusals
-    none-of-job e = done-none (job-refusals m q n) (omega arith) (sym tested ∙ e)
+    job-refused h rs = first-refused (job-refusals m q n) rs tested h
 
     pub job-within : s ≡ 0 → Within-limits m q n
     unfolding job-refusals
-    job-within e = limits-hold (none-of-job e) .0
+    job-within e = limits-hold (done-none (job-refusals m q n) (omega arith) (sym tested ∙ e)) .0
 
     pub job-past : s ≡ 0 → (rs : List Refusal) → first-of (job-refusals m q n ++ rs) ≡ first-of rs
-    job-past e rs = first-past (job-refusals m q n) rs (none-of-job e)
+    unfolding job-refusals
+    job-past e rs = first-passed (job-refusals m q n) rs (omega arith) tested e
 
 -- a call that takes no hold offset gives 0, by which no pattern that is taken is refused
 pub no-hold : (m n : ℕ) (rs : List Refusal) → first-of (pattern-refusal m ∷ text-refusal n ∷ rs) ≡ first-of (job-refusals m 0 n ++ rs)

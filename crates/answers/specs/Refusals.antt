@@ -1,7 +1,7 @@
 -- Refusals: a call's conditions in their order, and those that whoever drew the job can cause (document 01, "Turned away, by who can cause it").
 -- These are definitions.
 use mathlib.Core.Bool.{Bool, _||_, cond}
-use mathlib.Core.List.{List, [], _∷_}
+use mathlib.Core.List.{List, [], _∷_, _++_}
 use Prim.Native.Nat.{ℕ}
 use lib.Dec.{ltb, leb, eqb}
 
@@ -37,9 +37,12 @@ hold-refusal m q = refuse 5 (leb m q)
 abbrev pub text-refusal : (n : ℕ) → Refusal
 text-refusal n = refuse 6 (ltb longest-text n)
 
--- what whoever drew the job can cause, in its order
+-- what whoever drew the job can cause, in its order: by its pattern and hold offset, the job's rule, and then by its text
+abbrev pub rule-refusals : (m q : ℕ) → List Refusal
+rule-refusals m q = pattern-refusal m ∷ hold-refusal m q ∷ []
+
 unfoldable pub job-refusals : (m q n : ℕ) → List Refusal
-job-refusals m q n = pattern-refusal m ∷ hold-refusal m q ∷ text-refusal n ∷ []
+job-refusals m q n = rule-refusals m q ++ (text-refusal n ∷ [])
 
 -- 7: a caller's buffer (lent buffer) has fewer entries than are needed
 abbrev pub buffer-refusal : (entries needed : ℕ) → Refusal

@@ -1,7 +1,8 @@
 // What every call answers, beside what a call adds of its own, and the refusals that whoever drew the job can cause.
 ghost use mathlib.Core.Path.{_≡_};
-ghost use Rattle.answers.specs.Answers.{status-only};
-ghost use Rattle.answers.specs.Refusals.{first-of, job-refusals};
+ghost use mathlib.Core.List.{[], _∷_};
+ghost use Rattle.answers.specs.Answers.{status-only, prepared, searched, converted, counted};
+ghost use Rattle.answers.specs.Refusals.{first-of, text-refusal, rule-refusals, job-refusals};
 
 // Document 01's answer. What a call does not work out is 0 in it, and a refused call answers zeros beside its status.
 #[repr(C)]
@@ -28,18 +29,79 @@ pub fn status_only(status: u32) -> Answer
     }
 }
 
-// 4, 5 and 6 in their order, or 0. A call that takes no hold offset (hold place) gives 0 for q, and one that takes no text (chain) 0 for n.
-pub fn job_status(m: usize, q: usize, n: usize) -> u32
-    ensures { λ r. ⌜ r ≡ first-of (job-refusals m q n) ⌝ }
+// The answer of a call that has prepared a pattern (motif).
+pub fn prepared() -> Answer
+    ensures { λ r. ⌜ r ≡ prepared ⌝ }
+{
+    status_only(0)
+}
+
+// The answer of a call that has searched.
+pub fn searched(occurrences: u32, comparisons: u32) -> Answer
+    ensures { λ r. ⌜ r ≡ searched occurrences comparisons ⌝ }
+{
+    Answer {
+        status: 0,
+        occurrences,
+        comparisons,
+        ones: 0,
+    }
+}
+
+// The answer of a call that has converted: what its search answers, and the ones of the text (the holes of the chain).
+pub fn converted(search: Answer, ones: u32) -> Answer
+    ensures { λ r. ⌜ r ≡ converted search ones ⌝ }
+{
+    Answer {
+        status: search.status,
+        occurrences: search.occurrences,
+        comparisons: search.comparisons,
+        ones,
+    }
+}
+
+// The answer of a call that has counted the ones of a text.
+pub fn counted(ones: u32) -> Answer
+    ensures { λ r. ⌜ r ≡ counted ones ⌝ }
+{
+    Answer {
+        status: 0,
+        occurrences: 0,
+        comparisons: 0,
+        ones,
+    }
+}
+
+// 4 and 5 in their order, or 0. A call that takes no hold offset (hold place) gives 0.
+pub fn rule_status(m: usize, hold_offset: usize) -> u32
+    ensures { λ r. ⌜ r ≡ first-of (rule-refusals m «hold_offset») ⌝ }
 {
     if m == 0 || 128 < m {
         return 4;
     }
-    if m <= q {
+    if m <= hold_offset {
         return 5;
     }
+    0
+}
+
+// 6, or 0.
+pub fn text_status(n: usize) -> u32
+    ensures { λ r. ⌜ r ≡ first-of (text-refusal n ∷ []) ⌝ }
+{
     if 16384 < n {
         return 6;
     }
     0
+}
+
+// 4, 5 and 6 in their order, or 0. A call that takes no text (chain) gives 0 for n.
+pub fn job_status(m: usize, hold_offset: usize, n: usize) -> u32
+    ensures { λ r. ⌜ r ≡ first-of (job-refusals m «hold_offset» n) ⌝ }
+{
+    let status = rule_status(m, hold_offset);
+    if status != 0 {
+        return status;
+    }
+    text_status(n)
 }

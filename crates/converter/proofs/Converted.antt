@@ -1,58 +1,78 @@
 -- What converting answers and leaves, put together from what its parts do: refused, and done.
--- The outcome of a search of status 0 gives the tables, the occurrences and two counts.
+-- The search of a conversion that is taken is taken too; it gives the tables, the occurrences and two counts.
 use mathlib.Core.List.{List}
-use mathlib.Core.Path.{_≡_, refl, sym, ap}
-use Prim.Native.Nat.{ℕ, zero, suc, _<_}
-use lib.IntN.{ℤ}
+use mathlib.Core.Path.{_≡_, sym, ap}
+use Prim.Native.Nat.{ℕ}
+use native.Mathlib.Omega.{arith}
 use lib.ListN.{length, take}
-use Rattle.answers.proofs.Fronts.{in-front-take}
-use Rattle.answers.specs.Answers.{status-only, if-done}
+use lib.Seq.{getD-take}
+use Rattle.answers.proofs.Answered.{refused-only, refused-answer}
+use Rattle.answers.proofs.Fronts.{from-entry-length, in-front-take}
+use Rattle.answers.specs.Answers.{status-only, if-done, answered}
 use Rattle.answers.specs.Buffers.{in-front}
 use Rattle.answers.specs.declared.Answer.{Answer}
+use Rattle.tables.proofs.Rooms.{tables-kept}
+use Rattle.tables.specs.Buffers.{Tables, lengths}
 use Rattle.steps.specs.Occurrences.{occurrences}
-use Rattle.matcher.specs.Search.{search-answer, found-left, Search-outcome-of}
-use Rattle.frames.proofs.Holds.{frames-in-front}
-use Rattle.converter.specs.Convert.{convert-answer, Convert-outcome-of}
-use Rattle.frames.specs.Frames.{with-holds}
-use Rattle.ones.specs.Ones.{ones-of}
+use Rattle.matcher.specs.Search.{found-left, Search-outcome-of, Search-outcome}
+use Rattle.frames.proofs.Holds.{occurrence-inside, occurrences-few, frames-in-front}
+use Rattle.converter.proofs.Taken.{Conversion-taken, search-taken}
+use Rattle.converter.specs.Convert.{convert-done, frames-left, Convert-outcome-of}
+use Rattle.converter.specs.Within.{Frames-ready, Frames-written}
 
-module _ {w t : List ℕ} {order : List ℤ} {delta2 delta1 found : List ℕ} where
+-- as many entries as a search counts are the occurrences
+module _ {w t : List ℕ} {lent left : Tables} {found found' : List ℕ} {r : Answer} (searched : Search-outcome-of 0 w t lent left found found' r) where
+  counted : r .occurrences ≡ length (occurrences w t)
+  unfolding if-done answered
+  counted = ap (λ (a : Answer). a .occurrences) (searched .answer)
+
+  part-found : take (r .occurrences) found' ≡ occurrences w t
+  unfolding if-done found-left
+  part-found = rw (searched .occurrences-left) (in-front-take (occurrences w t) found (r .occurrences) (sym counted))
+
+module _ {q : ℕ} {w t : List ℕ} {lent : Tables} {found frame : List ℕ} where
   -- a refused call answers its status and leaves every buffer
-  pub refused :
-      {q : ℕ} {frame : List ℕ} (s : ℕ) → (s ≡ 0 → ⊥) →
-      Convert-outcome-of s q w t order order delta2 delta2 delta1 delta1 found found frame frame (status-only s)
-  unfolding if-done convert-answer found-left
-  refused zero h = absurd (h refl)
-  refused (suc s) h = record {
-    answer = refl;
-    tables = record { order-left = refl; delta2-left = refl; delta1-left = refl };
-    occurrences-left = refl;
-    frames-left = refl;
-  }
+  pub refused : (s : ℕ) → (s ≡ 0 → ⊥) → Convert-outcome-of s q w t lent lent found found frame frame (status-only s)
+  unfolding found-left frames-left
+  refused s h =
+      record {
+        answer = refused-answer s (convert-done w t) h;
+        tables = tables-kept s w h;
+        occurrences-left = refused-only s _ found h;
+        moves-and-holds-left = refused-only s _ frame h;
+      }
 
   module _
-      {order' : List ℤ} {delta2' delta1' found' : List ℕ} {r : Answer}
-      (searched : Search-outcome-of 0 w t order order' delta2 delta2' delta1 delta1' found found' r)
+      {left : Tables} {found' : List ℕ} {r : Answer} (fit : Conversion-taken (length w) q (length t) (lengths lent) (length found) (length frame))
+      (outcome : Search-outcome w t lent left found found' r)
     where
-      -- as many entries as a search counts are the occurrences
-      pub counted : r .occurrences ≡ length (occurrences w t)
-      unfolding if-done search-answer
-      counted = ap (λ (a : Answer). a .occurrences) (searched .answer)
-
-      pub part-found : take (r .occurrences) found' ≡ occurrences w t
-      unfolding if-done found-left
-      part-found = rw (searched .occurrences-left) (in-front-take (occurrences w t) found (r .occurrences) (sym counted))
+      -- the frames can be written
+      pub frames-ready : Frames-ready (r .occurrences) q t found' frame
+      unfolding if-done found-left in-front
+      frames-ready =
+          let searched = rw (search-taken fit) at outcome in
+          let count = counted searched in
+          let few = occurrences-few w t (omega (arith, fit .limits)) in
+          let size = rw (← searched .occurrences-left) at (from-entry-length 0 (occurrences w t) found (omega (arith, fit .found-room))) in
+          record {
+            text = fit .limits .text;
+            room = fit .frames-room;
+            counted = omega (arith, fit .found-room);
+            inside = λ i l.
+                let at = occurrence-inside w t i (omega arith) in
+                rw (← getD-take (r .occurrences) found' i 0 l, part-found searched) (omega (arith, fit .limits));
+          }
 
       -- a call that is done: the holds are marked at those entries, in the moves
       pub done :
-          {q : ℕ} {frame frame' : List ℕ} {ones : ℕ} → q < length w → ones ≡ ones-of t →
-          frame' ≡ with-holds q (take (r .occurrences) found') (in-front t frame) →
-          Convert-outcome-of 0 q w t order order' delta2 delta2' delta1 delta1' found found' frame frame'
-          (record { status = 0; occurrences = r .occurrences; comparisons = r .comparisons; ones = ones })
-      unfolding if-done convert-answer search-answer
-      done {q} {frame} h one e = record {
-        answer = rw (searched .answer, one);
-        tables = searched .tables;
-        occurrences-left = searched .occurrences-left;
-        frames-left = rw (e, part-found) (frames-in-front q w t frame h);
-      }
+          {frame' : List ℕ} {a : Answer} → Frames-written r q t found' frame frame' a →
+          Convert-outcome-of 0 q w t lent left found found' frame frame' a
+      unfolding if-done answered frames-left
+      done written =
+          let searched = rw (search-taken fit) at outcome in
+          record {
+            answer = rw (written .answer, searched .answer);
+            tables = searched .tables;
+            occurrences-left = searched .occurrences-left;
+            moves-and-holds-left = rw (written .frames-left, part-found searched) (frames-in-front q w t frame (fit .limits .hold-offset));
+          }

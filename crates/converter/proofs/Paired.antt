@@ -3,30 +3,33 @@
 use mathlib.Core.Bool.{Bool}
 use mathlib.Core.List.{List, [], _∷_, map}
 use mathlib.Core.Path.{_≡_, refl, sym, _∙_, ap}
-use Prim.Native.Nat.{ℕ, zero, suc, _+_, _≤_, _<_}
+use Prim.Native.Nat.{ℕ, suc, _+_, _≤_, _<_}
 use native.Mathlib.Omega.{arith}
 use lib.Dec.{eqb}
 use lib.ListN.{length, getD}
+use Rattle.answers.proofs.Answered.{done-only}
+use Rattle.answers.proofs.Bytes.{bytes-entry}
 use Rattle.answers.proofs.Fronts.{in-front-take}
-use Rattle.answers.specs.Answers.{status-only, if-done}
+use Rattle.answers.specs.Answers.{converted, if-done, answered}
 use Rattle.answers.specs.Buffers.{in-front}
+use Rattle.answers.specs.Bytes.{Bytes}
 use Rattle.answers.specs.declared.Answer.{Answer}
-use Rattle.tables.specs.Sets.{byte}
-use Rattle.tables.specs.Tables.{period}
 use Rattle.steps.proofs.Bound.{few-comparisons}
 use Rattle.steps.proofs.Decide.{same-texts}
+use Rattle.steps.specs.Bound.{search-bound}
 use Rattle.steps.specs.Occurrences.{occurrences}
-use Rattle.steps.specs.Promises.{Few-comparisons, bound}
+use Rattle.steps.specs.Promises.{Few-comparisons}
 use Rattle.matcher.proofs.Searched.{Search-fit, search-fit}
-use Rattle.matcher.specs.Search.{search-answer, found-left}
+use Rattle.matcher.specs.Search.{search-done, found-left}
 use Rattle.steps.specs.Steps.{comparisons}
+use Rattle.steps.specs.Text.{shown, span}
 use Rattle.frames.proofs.Ascending.{passing}
 use Rattle.frames.proofs.Holds.{length-frames, holds-of, holds-listed}
-use Rattle.converter.proofs.Taken.{taken}
-use Rattle.converter.specs.Convert.{convert-answer}
+use Rattle.converter.proofs.Taken.{conversion-taken}
+use Rattle.converter.specs.Convert.{frames-left}
 use Rattle.frames.specs.Frames.{hold, frames}
 use Rattle.ones.specs.Ones.{ones-of}
-use Rattle.converter.specs.Paired.{Call, Converts, Taken, Search, by-search, by-convert, found-by, holds-by, holds-from, frames-held, All-bytes, Every-search-exact, Paired}
+use Rattle.converter.specs.Paired.{Call, Converts, Call-taken, Search, by-search, by-convert, found-by, holds-by, holds-from, frames-held, Every-search-exact, Paired}
 
 -- the positions of the holds are those that pass, for a test that tells which frames are holds
 holds-from-passing :
@@ -37,11 +40,13 @@ holds-from-passing i [] test h = refl
 holds-from-passing i (f ∷ later) test h =
     rw (h 0 i (omega arith) (omega arith), holds-from-passing (suc i) later test (λ k j e u. h (suc k) j (omega arith) (omega arith)))
 
--- a call that answers status 0 has status 0
-done-only : (s : ℕ) (a r : Answer) → r ≡ if-done s a (status-only s) → r .status ≡ 0 → s ≡ 0
-unfolding if-done
-done-only zero a r h e = refl
-done-only (suc s) a r h e = absurd (omega (arith, ap (λ (x : Answer). x .status) h))
+-- the frames of a text of bytes are holds just at b + q for each occurrence b
+pub frames-hold :
+    (q : ℕ) (w t : List ℕ) → q < length w → Bytes t → holds-from 0 (frames q w t) ≡ map (λ b. b + q) (occurrences w t)
+unfolding holds-of
+frames-hold q w t inside bytes =
+    holds-from-passing 0 (frames q w t) (λ i. eqb (getD (frames q w t) i 0) hold) (λ k j at u. let at' : j ≡ k = omega arith in rw at')
+    ∙ holds-listed q w t inside (bytes-entry t bytes)
 
 -- what a search that is taken gives
 record Worked (w t : List ℕ) (c : Call) : Type 0 where
@@ -53,15 +58,11 @@ record Worked (w t : List ℕ) (c : Call) : Type 0 where
 module _ {w t : List ℕ} {c : Call} where
   -- from a call's status, its answer, whatever ones that has, and its buffer of occurrences
   worked :
-      (s ones : ℕ) → (s ≡ 0 → 1 ≤ length w) →
-      c .answer
-      ≡ if-done s
-      (record { status = 0; occurrences = length (occurrences w t); comparisons = length (comparisons w t); ones = ones })
-      (status-only s) →
-      c .left .found ≡ found-left s w t (c .lent .found) → Taken c → Worked w t c
-  unfolding if-done found-left
+      (s ones : ℕ) → (s ≡ 0 → 1 ≤ length w) → c .answer ≡ answered s (converted (search-done w t) ones) →
+      c .left .found ≡ found-left s w t (c .lent .found) → Call-taken c → Worked w t c
+  unfolding if-done answered found-left
   worked s ones limits answer left e =
-      let done = done-only s _ _ answer e in
+      let done = done-only s (converted (search-done w t) ones) answer e in
       let answered = rw done at answer in
       record {
         nonempty = limits done;
@@ -70,14 +71,12 @@ module _ {w t : List ℕ} {c : Call} where
         occurrences-left = rw done at left;
       }
 
-  search-worked : {q : ℕ} → Search q w t c → Taken c → Worked w t c
-  unfolding search-answer convert-answer
+  search-worked : {q : ℕ} → Search q w t c → Call-taken c → Worked w t c
   search-worked (by-search h) e =
-      let b = c .lent in
-      let fit : _ → Search-fit w t (b .order) (b .delta2) (b .delta1) (b .found) = search-fit in
+      let fit : _ → Search-fit w t (c .lent .tables) (c .lent .found) = search-fit in
       worked _ 0 (λ done. fit done .tables .taken .some) (h .answer) (h .occurrences-left) e
   search-worked (by-convert h) e =
-      worked _ (ones-of t) (λ done. omega (arith, taken _ _ _ _ _ _ _ _ done .limits .hold)) (h .answer) (h .occurrences-left) e
+      worked _ (ones-of t) (λ done. omega (arith, conversion-taken done .limits .hold-offset)) (h .answer) (h .occurrences-left) e
 
   -- as many entries as are counted, in front of what the buffer held, are the occurrences
   found-right : Worked w t c → found-by c ≡ occurrences w t
@@ -85,19 +84,16 @@ module _ {w t : List ℕ} {c : Call} where
   found-right h =
       rw (h .occurrences-left) (in-front-take (occurrences w t) (c .lent .found) (c .answer .occurrences) (sym (h .occurrences-counted)))
 
-  few : Worked w t c → c .answer .comparisons ≤ bound (length w) (length t) (c .answer .occurrences) (period w)
+  few : Worked w t c → c .answer .comparisons ≤ search-bound w t
   unfolding comparisons occurrences Few-comparisons
-  few h = rw (h .occurrences-counted, h .comparisons-counted) (few-comparisons (byte t) (length t) w (h .nonempty))
+  few h = rw (h .comparisons-counted) (few-comparisons (shown t) (span w t) w (h .nonempty))
 
-  frames-right : {q : ℕ} → Converts q w t c → Taken c → All-bytes t → frames-held (length t) c ≡ map (λ b. b + q) (occurrences w t)
-  unfolding if-done frames-held holds-of convert-answer
+  frames-right : {q : ℕ} → Converts q w t c → Call-taken c → Bytes t → frames-held (length t) c ≡ map (λ b. b + q) (occurrences w t)
+  unfolding if-done frames-held frames-left
   frames-right {q} h e bytes =
-      let done = done-only _ _ _ (h .answer) e in
-      let inside : q < length w = taken _ _ _ _ _ _ _ _ done .limits .hold in
-      rw (h .frames-left, done, in-front-take (frames q w t) (c .lent .frames) (length t) (length-frames q w t))
-      (holds-from-passing 0 (frames q w t) (λ i. eqb (getD (frames q w t) i 0) hold)
-      (λ k j at u. let at' : j ≡ k = omega arith in rw at')
-      ∙ holds-listed q w t inside bytes)
+      let done = done-only _ _ (h .answer) e in
+      rw (h .moves-and-holds-left, done, in-front-take (frames q w t) (c .lent .frames) (length t) (length-frames q w t))
+      (frames-hold q w t (conversion-taken done .limits .hold-offset) bytes)
 
 pub every-search-exact : Every-search-exact
 unfolding Every-search-exact holds-by
@@ -121,7 +117,7 @@ paired q w t u c d s e s' e' l same =
     record {
       same-comparisons = compared;
       same-occurrences = found;
-      same-holds = rw found;
+      same-holds = ap (map (λ b. b + q)) found;
       same-frames = λ h b h' b'. y .frames-exact h' b' ∙ rw found (sym (x .frames-exact h b));
       same-count = rw (x .comparisons-counted, y .comparisons-counted, compared);
     }

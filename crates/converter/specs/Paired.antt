@@ -3,25 +3,24 @@
 use mathlib.Core.Bool.{cond}
 use mathlib.Core.List.{List, [], _∷_, map}
 use mathlib.Core.Path.{_≡_}
-use Prim.Native.Nat.{ℕ, suc, _+_, _≤_, _<_}
+use Prim.Native.Nat.{ℕ, suc, _+_, _≤_}
 use lib.Dec.{eqb}
-use lib.IntN.{ℤ}
 use lib.ListN.{length, take}
+use Rattle.answers.specs.Bytes.{Bytes}
 use Rattle.answers.specs.declared.Answer.{Answer}
-use Rattle.tables.specs.Sets.{byte}
-use Rattle.tables.specs.Tables.{period}
+use Rattle.tables.specs.Buffers.{Tables}
+use Rattle.steps.specs.Bound.{search-bound}
 use Rattle.steps.specs.Occurrences.{occurrences}
-use Rattle.steps.specs.Promises.{Same-at, bound}
+use Rattle.steps.specs.Promises.{Same-at}
 use Rattle.matcher.specs.Search.{Search-outcome}
 use Rattle.steps.specs.Steps.{comparisons}
+use Rattle.steps.specs.Text.{shown}
 use Rattle.converter.specs.Convert.{Convert-outcome}
 use Rattle.frames.specs.Frames.{hold}
 
 -- the caller's buffers (lent buffers); `search` is lent no frames, and says nothing of these
 pub record Buffers : Type 0 where
-  pub order : List ℤ
-  pub delta2 : List ℕ
-  pub delta1 : List ℕ
+  pub tables : Tables
   pub found : List ℕ
   pub frames : List ℕ
 
@@ -36,19 +35,18 @@ abbrev pub Searches : (w t : List ℕ) → Call → Type 0
 Searches w t c =
     let x = c .lent in
     let x' = c .left in
-    Search-outcome w t (x .order) (x' .order) (x .delta2) (x' .delta2) (x .delta1) (x' .delta1) (x .found) (x' .found) (c .answer)
+    Search-outcome w t (x .tables) (x' .tables) (x .found) (x' .found) (c .answer)
 
 -- the contract of `convert` allows this call for w, t and the hold offset (hold place) q
 abbrev pub Converts : (q : ℕ) → (w t : List ℕ) → Call → Type 0
 Converts q w t c =
     let x = c .lent in
     let x' = c .left in
-    Convert-outcome
-    q w t (x .order) (x' .order) (x .delta2) (x' .delta2) (x .delta1) (x' .delta1) (x .found) (x' .found) (x .frames) (x' .frames) (c .answer)
+    Convert-outcome q w t (x .tables) (x' .tables) (x .found) (x' .found) (x .frames) (x' .frames) (c .answer)
 
 -- the call is taken
-abbrev pub Taken : Call → Type 0
-Taken c = c .answer .status ≡ 0
+abbrev pub Call-taken : Call → Type 0
+Call-taken c = c .answer .status ≡ 0
 
 -- a search for w in t with the hold offset q: `search` takes no q, and so is a search with any
 pub data Search (q : ℕ) (w t : List ℕ) (c : Call) : Type 0 where
@@ -72,22 +70,18 @@ holds-from i (f ∷ later) = cond (eqb f hold) (i ∷ holds-from (suc i) later) 
 unfoldable pub frames-held : (n : ℕ) → Call → List ℕ
 frames-held n c = holds-from 0 (take n (c .left .frames))
 
--- each entry is a byte (card), as in every slice of u8
-abbrev pub All-bytes : List ℕ → Type 0
-All-bytes t = (i : ℕ) → byte t i < 256
-
 -- what a search answers and leaves: the occurrences by meaning, and their number h; the number of comparisons (looks) that the steps make,
 -- which keeps the bound; and after a conversion just its holds are holds among its n frames
 pub record Exact (q : ℕ) (w t : List ℕ) (c : Call) : Type 0 where
   pub occurrences-found : found-by c ≡ occurrences w t
   pub occurrences-counted : c .answer .occurrences ≡ length (occurrences w t)
   pub comparisons-counted : c .answer .comparisons ≡ length (comparisons w t)
-  pub few : c .answer .comparisons ≤ bound (length w) (length t) (c .answer .occurrences) (period w)
-  pub frames-exact : Converts q w t c → All-bytes t → frames-held (length t) c ≡ holds-by q c
+  pub few : c .answer .comparisons ≤ search-bound w t
+  pub frames-exact : Converts q w t c → Bytes t → frames-held (length t) c ≡ holds-by q c
 
 -- demand 3: this is so of every search that is taken
 unfoldable pub Every-search-exact : Type 0
-Every-search-exact = (q : ℕ) (w t : List ℕ) (c : Call) → Search q w t c → Taken c → Exact q w t c
+Every-search-exact = (q : ℕ) (w t : List ℕ) (c : Call) → Search q w t c → Call-taken c → Exact q w t c
 
 -- what a search c in t and a search d in u share: the comparisons that the steps make, in their order, the occurrences, the holds
 -- (of two conversions those among the frames too), and the count of comparisons that is answered
@@ -95,13 +89,13 @@ pub record Shared (q : ℕ) (w t u : List ℕ) (c d : Call) : Type 0 where
   pub same-comparisons : comparisons w u ≡ comparisons w t
   pub same-occurrences : found-by d ≡ found-by c
   pub same-holds : holds-by q d ≡ holds-by q c
-  pub same-frames : Converts q w t c → All-bytes t → Converts q w u d → All-bytes u → frames-held (length u) d ≡ frames-held (length t) c
+  pub same-frames : Converts q w t c → Bytes t → Converts q w u d → Bytes u → frames-held (length u) d ≡ frames-held (length t) c
   pub same-count : d .answer .comparisons ≡ c .answer .comparisons
 
 -- demand 3: so do any two searches, both taken, for one pattern and one hold offset, in texts of equal length that have the same byte
 -- at every position where the first search compares
 unfoldable pub Paired : Type 0
 Paired =
-    (q : ℕ) (w t u : List ℕ) (c d : Call) → Search q w t c → Taken c → Search q w u d → Taken d →
-    length u ≡ length t → Same-at (comparisons w t) (byte t) (byte u) →
+    (q : ℕ) (w t u : List ℕ) (c d : Call) → Search q w t c → Call-taken c → Search q w u d → Call-taken d →
+    length u ≡ length t → Same-at (comparisons w t) (shown t) (shown u) →
     Shared q w t u c d

@@ -85,21 +85,17 @@ link-added w i last r h j b =
 
 -- with the end of the byte's row, the rows' ends are right for the positions below i + 1
 pub end-added :
-    (w : List ℕ) (i end : ℕ) (table : List ℕ) → Row-ends w i table →
+    {w table : List ℕ} {i : ℕ} → Row-ends w i table → (end : ℕ) →
     i + 1 < length w → end + 1 ≡ byte w i * length w + length w → end < length table →
     Row-ends w (i + 1) (set table end (length w - 1 - i))
-end-added w i end table r h e l =
+end-added {w} {table} {i} r end h e l =
     record {
       ends = λ c x b q.
           ⊎-elim
           (same c x q)
-          (λ d. rw (apart c x d (omega arith), add-one i, last-other w c i d) (r .ends c x b q))
+          (λ d. rw (apart c x (omega arith) (λ g. absurd (d g)), add-one i, last-other w c i d) (r .ends c x b q))
           (eq-or-ne (byte w i) c);
-      others = λ c x b q.
-          ⊎-elim
-          (λ d. getD-set-other table end (c * m + x) _ 0 (omega (arith, rw d at e)) ∙ r .others c x b q)
-          (λ d. apart c x d (omega arith) ∙ r .others c x b q)
-          (eq-or-ne (byte w i) c);
+      others = λ c x b q. apart c x (omega arith) (λ g. omega arith) ∙ r .others c x b q;
     }
   where
     m : ℕ
@@ -110,7 +106,11 @@ end-added w i end table r h e l =
         let place : c * m + x ≡ end = omega (arith, rw d at e) in
         rw (place, getD-set-same table end (m - 1 - i) 0 l, add-one i, last-here w c i d) (omega arith)
 
-    -- an entry of another row is kept
-    apart : (c x : ℕ) → byte w i ≢ c → x < m → entry (set table end (m - 1 - i)) m c x ≡ entry table m c x
-    apart c x d b =
-        getD-set-other table end (c * m + x) _ 0 (λ q. rows-apart m (byte w i) c (m - 1) x (omega arith) b d (omega arith))
+    -- an entry of another row, and one before the row's end, is kept
+    apart : (c x : ℕ) → x < m → (byte w i ≡ c → x + 1 ≢ m) → entry (set table end (m - 1 - i)) m c x ≡ entry table m c x
+    apart c x b p =
+        getD-set-other table end (c * m + x) _ 0 (λ q.
+        ⊎-elim
+        (λ d. p d (omega (arith, rw d at e)))
+        (λ d. rows-apart m (byte w i) c (m - 1) x (omega arith) b d (omega arith))
+        (eq-or-ne (byte w i) c))

@@ -37,6 +37,13 @@ module _ (a k : ℕ) (xs : List ℕ) (within : a + k ≤ length xs) where
         let place : i ≡ a + (k + (i - a - k)) = omega arith in
         rw place (past (take a xs) _ a _ front ∙ past ys _ k _ fits ∙ getD-drop k (drop a xs) _ 0 ∙ getD-drop a xs _ 0)
 
+  -- a part that is changed and put back
+  changed-in :
+      (f : (i entry : ℕ) → ℕ) (ys : List ℕ) → Changed f (length (midOf a k xs)) (midOf a k xs) ys → (i : ℕ) → i < k →
+      getD (putMid a k xs ys) (a + i) 0 ≡ f i (getD xs (a + i) 0)
+  changed-in f ys p i h =
+      put-in ys (p .same-length ∙ part-length) i h ∙ p .changed i (omega (arith, part-length)) ∙ rw (part-entry i h)
+
 -- a table that is changed in its first n entries, and then in the k after them
 pub changed-parts :
     (f g h : (i entry : ℕ) → ℕ) (n k : ℕ) (xs a b : List ℕ) → n ≤ length xs → k ≡ length (a ++ drop n xs) - n →
@@ -71,22 +78,11 @@ changed-parts f g h n k xs a b u v p q first second =
 
     head : (i : ℕ) → i < n → getD (putMid n k ys b) i 0 ≡ h i (getD xs i 0)
     head i l =
-        rw (
-          put-before n k ys whole b b-length i l,
-          List·getD-append a (drop n xs) 0 i (omega (arith, a-length)),
-          p .changed i (omega (arith, length-take-le n xs u)),
-          getD-take n xs i 0 l,
-        ) (first i _ l)
+        let from-0 : 0 + i ≡ i = omega arith in
+        put-before n k ys whole b b-length i l ∙ rw from-0 at (changed-in 0 n xs (omega arith) f a p i l) ∙ first i _ l
 
     tail : (i : ℕ) → i < length xs → n ≤ i → getD (putMid n k ys b) i 0 ≡ h i (getD xs i 0)
     tail i l r =
         let j = i - n in
         let place : i ≡ n + j = omega arith in
-        let inside : j < k = omega (arith, ys-length) in
-        rw (
-          place,
-          put-in n k ys whole b b-length j inside,
-          q .changed j (omega (arith, part-length n k ys whole)),
-          part-entry n k ys whole j inside,
-          ys-after (n + j) (omega arith),
-        ) (second j _)
+        rw place (changed-in n k ys whole g b q j (omega (arith, ys-length)) ∙ rw (ys-after (n + j) (omega arith)) (second j _))

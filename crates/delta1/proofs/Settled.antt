@@ -1,14 +1,13 @@
--- The entries of a row of Δ1 while its positions lower it, from the last one down: each is right, or m where its shift leads further down.
--- A shift that the last shift allows, to a position with the byte, is at least Δ1; and Δ1 leads to such a position or past the pattern's front.
-use mathlib.Core.Bool.{Bool, true, false, _||_}
+-- The entries of a row of Δ1 while its positions lower it, from the last one down: each is right, or m if its shift leads further down.
+-- A shift to a position with the byte is at least Δ1 if the last shift allows it, and Δ1 leads to such a position or past the front.
+use mathlib.Core.Bool.{Bool, true, false}
 use mathlib.Core.List.{List}
 use mathlib.Core.Logic.{_≢_, _⊎_, inl, inr, ⊎-elim}
 use mathlib.Core.Path.{_≡_, refl, sym, _∙_}
 use Prim.Native.Nat.{ℕ, _+_, _-_, _≤_, _<_}
 use native.Mathlib.Numerals.{add-one}
 use native.Mathlib.Omega.{arith}
-use borrow.Author.Tests.{leb-false, lt-leb, eqb-true, eqb-false, lt-ltb, le-ltb}
-use lib.Dec.{leb, eqb}
+use borrow.Author.Tests.{le-leb, lt-leb, eqb-true, eqb-false, lt-ltb, le-ltb}
 use lib.ListN.{length, getD}
 use Rattle.tables.proofs.Cases.{le-or-lt, clash}
 use Rattle.tables.proofs.FirstShift.{Δ1-facts}
@@ -18,13 +17,9 @@ use Rattle.delta1.specs.Rows.{lowered-if, Reversed, allows, Lowered-row,
 use Rattle.tables.specs.Sets.{byte}
 use Rattle.tables.specs.Tables.{Δ1}
 
--- an entry where the positions at `at` and above, one up, have lowered the row
+-- an entry once the positions from `at` on have lowered the row
 abbrev pub Settled : (w : List ℕ) (c at s entry : ℕ) → Type 0
 Settled w c at s e = (e ≡ Δ1 w c s) ⊎ ((e ≡ length w) × (length w ≤ Δ1 w c s + at))
-
-or-fails : (a b : Bool) → a || b ≡ false → (a ≡ false) × (b ≡ false)
-or-fails true b e = absurd (clash true refl e)
-or-fails false b e = (refl, e)
 
 -- what the test of a shift tells
 module _ (w v : List ℕ) (k s : ℕ) (r : Reversed w v) where
@@ -35,24 +30,23 @@ module _ (w v : List ℕ) (k s : ℕ) (r : Reversed w v) where
 
   refused : allows v (length w) k s ≡ false → (g : ℕ) × (g + s + 1 ≡ length w) × In-neg w (byte w g) g k
   refused e =
-      let (far, different) = or-fails (leb (length w) (s + k)) (eqb (getD v s 0) (getD v (s + k) 0)) e in
-      let near = leb-false (length w) (s + k) far in
+      let past : length w ≤ s + k → s + k < length w = λ h. absurd (clash true refl (rw (le-leb (length w) (s + k) h) at e)) in
+      let near : s + k < length w = ⊎-elim past (λ h. h) (le-or-lt (length w) (s + k)) in
+      let different = eqb-false (getD v s 0) (getD v (s + k) 0) (rw (lt-leb (length w) (s + k) near) at e) in
       let g = length w - s - 1 in (
         g,
         omega arith,
-        (omega arith, λ q. eqb-false _ _ different (r s g (omega arith) ∙ sym q ∙ sym (r (s + k) (g - k) (omega arith)))),
+        (omega arith, λ q. different (r s g (omega arith) ∙ sym q ∙ sym (r (s + k) (g - k) (omega arith)))),
       )
 
 module _ (w : List ℕ) (c s : ℕ) (l : 1 ≤ s) (u : s ≤ length w) where
   -- where Δ1 is more than the shift to position j, it leads to a position below j that has the byte, or past the front
-  pub beyond : (k j : ℕ) → k + j + 1 ≡ length w → k < Δ1 w c s → length w ≤ Δ1 w c s + last-below w c j
-  beyond k j e h = ⊎-elim (λ q. omega arith) inside (le-or-lt (length w) (Δ1 w c s))
-    where
-      inside : Δ1 w c s < length w → length w ≤ Δ1 w c s + last-below w c j
-      inside q =
-          let g = length w - 1 in
-          let seen = Δ1-facts w c s l u .outside-seen g (omega arith) (omega arith) in
-          omega (arith, last-above w c j (g - Δ1 w c s) (omega arith) seen)
+  beyond : (k j : ℕ) → k + j + 1 ≡ length w → k < Δ1 w c s → length w ≤ Δ1 w c s + last-below w c j
+  beyond k j e h =
+      let g = length w - 1 in
+      let seen : Δ1 w c s < length w → byte w (g - Δ1 w c s) ≡ c =
+      λ q. Δ1-facts w c s l u .outside-seen g (omega arith) (omega arith) in
+      ⊎-elim (λ q. omega arith) (λ q. omega (arith, last-above w c j _ (omega arith) (seen q))) (le-or-lt (length w) (Δ1 w c s))
 
   pub to-last : length w ≤ Δ1 w c s + last-of w c
   to-last = beyond 0 (length w - 1) (omega arith) (Δ1-facts w c s l u .positive)
@@ -61,33 +55,29 @@ module _ (w : List ℕ) (c s : ℕ) (l : 1 ≤ s) (u : s ≤ length w) where
   pub at-least :
       (k : ℕ) → 1 ≤ k → ((g : ℕ) → g + s + 1 ≡ length w → Out-neg w (byte w g) g k) →
       ((g : ℕ) → g + 1 ≡ length w → Out-neg w c g k) → Δ1 w c s ≤ k
-  at-least k h p q = ⊎-elim (λ b. b) (λ b. absurd (smaller b)) (le-or-lt (Δ1 w c s) k)
-    where
-      smaller : ¬ (k < Δ1 w c s)
-      smaller b = ⊎-elim (λ (g, e, i). i .1 (p g e (i .0))) (λ (g, e, i). i .1 (q g e (i .0))) (Δ1-facts w c s l u .least k h b)
+  at-least k h p q =
+      let smaller : ¬ (k < Δ1 w c s) = λ b.
+      ⊎-elim (λ (g, e, i). i .1 (p g e (i .0))) (λ (g, e, i). i .1 (q g e (i .0))) (Δ1-facts w c s l u .least k h b) in
+      omega arith
 
   -- position j, which has the byte, lowers the entry to its shift
-  pub settle :
+  settle :
       (v : List ℕ) (k j e : ℕ) → Reversed w v → 1 ≤ k → k + j + 1 ≡ length w → byte w j ≡ c →
       Settled w c (j + 1) s e → Settled w c (last-below w c j) s (lowered-if (allows v (length w) k s) k e)
   settle v k j e r h q b t = go (allows v (length w) k s) refl
     where
-      seen : (g : ℕ) → g + 1 ≡ length w → Out-neg w c g k
-      seen g i n = let place : g - k ≡ j = omega arith in rw place b
-
-      -- k is in the first set, and Δ1 is not
-      other : allows v (length w) k s ≡ false → Δ1 w c s ≢ k
-      other a i =
-          let (g, n, (inside, different)) = refused w v k s r a in
-          different (rw i at (Δ1-facts w c s l u .outside-last g n) inside)
-
       go : (z : Bool) → allows v (length w) k s ≡ z → Settled w c (last-below w c j) s (lowered-if z k e)
       go true a =
+          let seen : (g : ℕ) → g + 1 ≡ length w → Out-neg w c g k = λ g i n. let place : g - k ≡ j = omega arith in rw place b in
           let most : Δ1 w c s ≤ k = at-least k h (allowed w v k s r a) seen in
           inl (⊎-elim (λ i. rw (le-ltb k e (omega arith)) i) (λ i. rw (lt-ltb k e (omega arith)) (omega arith)) t)
-      go false a = ⊎-elim inl (λ i. inr (i .0, beyond k j q (omega (arith, other a)))) t
+      -- k is in the first set, and Δ1 is not
+      go false a =
+          let (g, n, (inside, different)) = refused w v k s r a in
+          let other : Δ1 w c s ≢ k = λ i. different (rw i at (Δ1-facts w c s l u .outside-last g n) inside) in
+          ⊎-elim inl (λ i. inr (i .0, beyond k j q (omega arith))) t
 
--- a row of which the positions at `at` and above, one up, have lowered the entries: the next one down that has the byte is at - 1
+-- a row once the positions from `at` on have lowered it: the next one down that has the byte is at - 1
 pub record Row-settled (w : List ℕ) (c at : ℕ) (row : List ℕ) : Type 0 where
   pub within : at < length w
   pub entries : length row ≡ length w
@@ -96,9 +86,9 @@ pub record Row-settled (w : List ℕ) (c at : ℕ) (row : List ℕ) : Type 0 whe
 
 -- at the last position that has the byte, each entry is right or m
 pub row-first :
-    (w : List ℕ) (c at : ℕ) (row : List ℕ) → at < length w → length row ≡ length w → last-of w c ≡ at →
+    {w row : List ℕ} {c at : ℕ} → at < length w → length row ≡ length w → last-of w c ≡ at →
     ((x : ℕ) → x < length w → (getD row x 0 ≡ Δ1 w c (x + 1)) ⊎ (getD row x 0 ≡ length w)) → Row-settled w c at row
-row-first w c at row h n e begun =
+row-first {w} {row} {c} {at} h n e begun =
     record {
       within = h;
       entries = n;
@@ -108,9 +98,9 @@ row-first w c at row h n e begun =
 
 -- position at - 1 lowers the row to its shift, and the next one down is its link
 pub row-next :
-    (w v : List ℕ) (c at : ℕ) (row row' : List ℕ) → Reversed w v → 0 < at → Row-settled w c at row →
-    Lowered-row v (length w - at) row row' → Row-settled w c (last-below w c (at - 1)) row'
-row-next w v c at row row' r h p q =
+    (v : List ℕ) {w row row' : List ℕ} {c at : ℕ} → Row-settled w c at row → Lowered-row v (length w - at) row row' → Reversed w v →
+    0 < at → Row-settled w c (last-below w c (at - 1)) row'
+row-next v {w} {row} {row'} {c} {at} p q r h =
     let j = at - 1 in
     let k = length w - at in
     let one-up : at ≡ j + 1 = omega arith in
@@ -125,7 +115,7 @@ row-next w v c at row row' r h p q =
     }
 
 -- with no position left, the row is right
-pub row-right : (w : List ℕ) (c : ℕ) (row : List ℕ) → Row-settled w c 0 row → Right-row w c row
-row-right w c row p x b =
+pub row-right : {w row : List ℕ} {c : ℕ} → Row-settled w c 0 row → Right-row w c row
+row-right {w} {row} {c} p x b =
     let d = Δ1-facts w c (x + 1) (omega arith) (omega arith) in
     ⊎-elim (λ e. e) (λ i. omega arith) (p .settled x b)

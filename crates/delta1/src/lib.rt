@@ -1,4 +1,5 @@
-// Δ1, a row of m entries for each byte: all rows are filled with m, and then each position of the pattern lowers the row of its byte once.
+// Δ1 of a pattern (motif), a row of m entries for each byte. Every entry starts as m; then each position below m - 1 lowers the row of its
+// own byte to its shift, the distance from m - 1, wherever the last shift allows that.
 ghost use mathlib.Core.Bool.{true};
 ghost use mathlib.Core.Path.{_≡_};
 ghost use Prim.Native.Nat.{_*_, _-_, _≤_, _<_};
@@ -9,7 +10,7 @@ ghost use Rattle.delta1.specs.Rows.{Linked, Sizes, Row-ends, Row-begun, 
 ghost use Rattle.tables.specs.Sets.{byte};
 ghost use Rattle.tables.specs.Tables.{stored-Δ1};
 
-// Every entry becomes `value`.
+// Fills a table with one value.
 fn fill(table: &mut [u16], value: u16)
     ensures { λ _. ⌜ Each-changed (λ i e. value) (now (table .entry)) (now (table .exit)) ⌝ }
 {
@@ -18,7 +19,7 @@ fn fill(table: &mut [u16], value: u16)
     }
 }
 
-// The pattern's bytes, the last first.
+// Copies the pattern backwards, its last byte first.
 fn reverse(pattern: &[u8], reversed: &mut [u8])
     requires { ⌜ length (now pattern) ≤ length (now reversed) ⌝ }
     ensures { λ _. ⌜ Reversed (now (pattern .entry)) (now (reversed .exit)) ⌝ }
@@ -29,7 +30,8 @@ fn reverse(pattern: &[u8], reversed: &mut [u8])
     }
 }
 
-// The end of each row, Δ1(c, m), and the links: entry i + 1 of `last` is the last position below i that has the byte of i, one up, or 0.
+// Links each position below m - 1 to the nearest one before it that has the same byte, and leaves Δ1(c, m) at the end of each row. A link
+// is a position plus one, so that 0 is none; the link of position i is entry i + 1 of `last`.
 fn link(pattern: &[u8], last: &mut [u8], table: &mut [u16])
     requires { ⌜ Sizes (now pattern) (now last) (now table) ⌝ }
     requires { ⌜ Row-ends (now pattern) 0 (now table) ⌝ }
@@ -44,7 +46,7 @@ fn link(pattern: &[u8], last: &mut [u8], table: &mut [u16])
     }
 }
 
-// Each entry that is larger than `shift` is lowered to it.
+// Lowers each entry that is larger than `shift` to `shift`.
 fn lower(shift: u16, row: &mut [u16])
     ensures { λ _. ⌜ Lowered (λ x. true) shift (now (row .entry)) (now (row .exit)) ⌝ }
 {
@@ -54,7 +56,7 @@ fn lower(shift: u16, row: &mut [u16])
     }
 }
 
-// The same where two bytes are equal.
+// Lowers each entry that is larger than `shift` to `shift`, if `bytes` and `others` are equal at its index.
 fn lower_where_equal(bytes: &[u8], others: &[u8], shift: u16, row: &mut [u16])
     requires { ⌜ length (now bytes) ≡ length (now row) ⌝ }
     requires { ⌜ length (now others) ≡ length (now row) ⌝ }
@@ -70,7 +72,8 @@ fn lower_where_equal(bytes: &[u8], others: &[u8], shift: u16, row: &mut [u16])
     }
 }
 
-// The same where the last shift allows that: `reversed` has the pattern's bytes, the last first.
+// Lowers a row to `shift` wherever the last shift allows that. Entry x is for a last shift of x + 1: the reversed pattern must have equal
+// bytes at x + 1 and at x + 1 + shift, if it is long enough.
 fn lower_row(reversed: &[u8], shift: usize, row: &mut [u16])
     requires { ⌜ length (now row) ≤ length (now reversed) ⌝ }
     requires { ⌜ shift < length (now row) ⌝ }
@@ -88,7 +91,8 @@ fn lower_row(reversed: &[u8], shift: usize, row: &mut [u16])
     lower(shift as u16, &mut row[front..]);
 }
 
-// The row of the byte at `position`, the last that has it: this one and those that the links lead to lower the row to their shifts.
+// Writes the row of the byte at `position`, which is the last position below m - 1 that has it: this one and each that the links lead to
+// lower the row to their shifts.
 fn write_row(pattern: &[u8], reversed: &[u8], last: &[u8], position: usize, row: &mut [u16])
     requires { ⌜ Row-begun (now pattern) (now reversed) (now last) position (now row) ⌝ }
     ensures { λ _. ⌜ Right-row (now (pattern .entry)) (byte (now (pattern .entry)) position) (now (row .exit)) ⌝ }
@@ -100,7 +104,7 @@ fn write_row(pattern: &[u8], reversed: &[u8], last: &[u8], position: usize, row:
     }
 }
 
-// The rows of the bytes that the pattern has below m - 1, each at the last position that has its byte.
+// Writes the row of each byte that the pattern has below m - 1, once, at the last position that has it: the row's end tells which that is.
 fn write_rows(pattern: &[u8], reversed: &[u8], last: &[u8], table: &mut [u16])
     requires { ⌜ Rows-begun (now pattern) (now reversed) (now last) (now table) ⌝ }
     ensures { λ _. ⌜ Right-table (now (pattern .entry)) (now (table .exit)) ⌝ }
@@ -115,7 +119,7 @@ fn write_rows(pattern: &[u8], reversed: &[u8], last: &[u8], table: &mut [u16])
     }
 }
 
-// The table of 256 rows.
+// Writes the table of 256 rows.
 fn write_table(pattern: &[u8], table: &mut [u16])
     requires { ⌜ 1 ≤ length (now pattern) ⌝ }
     requires { ⌜ length (now pattern) ≤ 128 ⌝ }
@@ -130,7 +134,7 @@ fn write_table(pattern: &[u8], table: &mut [u16])
     write_rows(pattern, &reversed, &last, table);
 }
 
-// Δ1(c, s) at c × m + s - 1, and past those entries what stood there. It is public for the crate that prepares a pattern.
+// Writes Δ1(c, s) at c × m + s - 1 and keeps what stands past those entries. It is public for the crate that prepares a pattern.
 pub fn write_delta1(pattern: &[u8], delta1: &mut [u16])
     requires { ⌜ 1 ≤ length (now pattern) ⌝ }
     requires { ⌜ length (now pattern) ≤ 128 ⌝ }

@@ -1,59 +1,54 @@
 -- Exactly the frames b + q of the occurrences b are holds (`Holds-right`), each other frame is its byte, and the occurrences ascend inside the text.
 -- By induction on the list of occurrences; an occurrence is a position of the run 0 to n that passes a test.
-use mathlib.Core.Bool.{Bool, true, false, _||_, cond}
+use mathlib.Core.Bool.{true, false, cond}
 use mathlib.Core.List.{List, [], _∷_, _++_, map}
 use mathlib.Core.Logic.{⊎-elim}
 use mathlib.Core.Path.{_≡_, refl, sym, _∙_}
 use Prim.Native.Nat.{ℕ, zero, suc, _+_, _-_, _≤_, _<_}
 use native.Mathlib.Omega.{arith}
-use borrow.Author.Tests.{eqb-true, eqb-false, eq-eqb, ne-eqb}
+use borrow.Author.Tests.{eq-eqb, ne-eqb}
 use lib.Dec.{eqb}
 use lib.ListN.{length, getD, set, drop, length-set}
 use lib.Seq.{set-append-left, getD-set-same, getD-set-other}
 use Rattle.answers.specs.Buffers.{in-front}
-use Rattle.tables.proofs.Cases.{eq-or-ne}
+use Rattle.tables.proofs.Cases.{true-or-false, eq-or-ne}
 use Rattle.tables.specs.Sets.{byte}
 use Rattle.steps.proofs.Occurrences.{occurs-inside}
 pub use Rattle.steps.proofs.Occurrences.{occurrences-few}
+use Rattle.steps.proofs.Text.{span-length}
 use Rattle.steps.specs.Occurrences.{occurs, occurrences-from, all-occurrences, occurrences}
+use Rattle.steps.specs.Text.{shown, span}
 use Rattle.frames.proofs.Ascending.{Ascends, ascends-entry, passing, passing-ascends, passing-same, passing-none}
 use Rattle.frames.specs.Frames.{hold, with-holds, frames}
 use Rattle.frames.specs.Promises.{held-by, Holds-right}
 
 -- a frame after holds are marked at every b + q
 with-holds-at :
-    (q i : ℕ) (positions frames : List ℕ) → i < length frames →
-    getD (with-holds q positions frames) i 0 ≡ cond (held-by q positions i) hold (getD frames i 0)
+    (x q i : ℕ) (positions frames : List ℕ) → i < length frames →
+    getD (with-holds x q positions frames) i 0 ≡ cond (held-by q positions i) x (getD frames i 0)
 unfolding with-holds held-by
-with-holds-at q i [] fs h = refl
-with-holds-at q i (b ∷ later) fs h =
-    let h' : i < length (set fs (b + q) hold) = rw length-set h in
-    with-holds-at q i later (set fs (b + q) hold) h' ∙ go (eqb (b + q) i) refl
-  where
-    always : (z : Bool) → cond z hold hold ≡ hold
-    always true = refl
-    always false = refl
+with-holds-at x q i [] fs h = refl
+with-holds-at x q i (b ∷ later) fs h =
+    let h' : i < length (set fs (b + q) x) = rw length-set h in
+    let always : cond (held-by q later i) x x ≡ x = ⊎-elim (λ z. rw z) (λ z. rw z) (true-or-false (held-by q later i)) in
+    with-holds-at x q i later (set fs (b + q) x) h'
+    ∙ ⊎-elim
+    (λ e. rw (eq-eqb (b + q) i e, e, getD-set-same fs i x 0 h) always)
+    (λ d. rw (ne-eqb (b + q) i d, getD-set-other fs (b + q) i x 0 (λ e. d (sym e))))
+    (eq-or-ne (b + q) i)
 
-    go :
-        (z : Bool) → eqb (b + q) i ≡ z →
-        cond (held-by q later i) hold (getD (set fs (b + q) hold) i 0) ≡ cond (z || held-by q later i) hold (getD fs i 0)
-    go true e =
-        let at : b + q ≡ i = eqb-true _ _ e in
-        rw (at, getD-set-same fs i hold 0 h) (always (held-by q later i))
-    go false e = rw (getD-set-other fs (b + q) i hold 0 (λ at. eqb-false _ _ e (sym at)))
-
-length-with-holds : (q : ℕ) (positions frames : List ℕ) → length (with-holds q positions frames) ≡ length frames
+length-with-holds : (x q : ℕ) (positions frames : List ℕ) → length (with-holds x q positions frames) ≡ length frames
 unfolding with-holds
-length-with-holds q [] fs = refl
-length-with-holds q (b ∷ later) fs = length-with-holds q later (set fs (b + q) hold) ∙ length-set fs (b + q) hold
+length-with-holds x q [] fs = refl
+length-with-holds x q (b ∷ later) fs = length-with-holds x q later (set fs (b + q) x) ∙ length-set fs (b + q) x
 
 pub length-frames : (q : ℕ) (w t : List ℕ) → length (frames q w t) ≡ length t
 unfolding frames
-length-frames q w t = length-with-holds q (occurrences w t) t
+length-frames q w t = length-with-holds hold q (occurrences w t) t
 
 pub holds-right : Holds-right
 unfolding Holds-right frames
-holds-right q i w t h = with-holds-at q i (occurrences w t) t h
+holds-right q i w t h = with-holds-at hold q i (occurrences w t) t h
 
 -- the occurrences are the positions that pass the test
 occurrences-passing : (n b : ℕ) (f : ℕ → ℕ) (N : ℕ) (w : List ℕ) → occurrences-from n b f N w ≡ passing n b (occurs f N w)
@@ -66,8 +61,8 @@ pub occurrences-ascend :
     (w t : List ℕ) (high : ℕ) → ((b : ℕ) → b + length w ≤ length t → b < high) → Ascends 0 high (occurrences w t)
 unfolding occurrences all-occurrences
 occurrences-ascend w t high h =
-    rw (occurrences-passing (suc (length t)) 0 (byte t) (length t) w)
-    (passing-ascends (suc (length t)) 0 high _ (λ k e. h k (occurs-inside (byte t) (length t) w k e)))
+    rw (occurrences-passing (suc (span w t)) 0 (shown t) (span w t) w)
+    (passing-ascends (suc (span w t)) 0 high _ (λ k e. h k (rw span-length at (occurs-inside (shown t) (span w t) w k e))))
 
 pub occurrences-hold : (q : ℕ) (w t : List ℕ) → q < length w → Ascends 0 (length t - q) (occurrences w t)
 occurrences-hold q w t h = occurrences-ascend w t (length t - q) (λ b u. omega arith)
@@ -110,11 +105,9 @@ pub frame-held :
     (q i : ℕ) (w t : List ℕ) → ((k : ℕ) → byte t k < hold) → i < length t →
     eqb (getD (frames q w t) i 0) hold ≡ held-by q (occurrences w t) i
 unfolding Holds-right
-frame-held q i w t bytes h = rw (holds-right q i w t h) (go (held-by q (occurrences w t) i))
-  where
-    go : (z : Bool) → eqb (cond z hold (byte t i)) hold ≡ z
-    go true = refl
-    go false = ne-eqb (byte t i) hold (λ e. omega (arith, bytes i))
+frame-held q i w t bytes h =
+    rw (holds-right q i w t h)
+    (⊎-elim (λ e. rw e) (λ e. rw e (ne-eqb (byte t i) hold (λ e. omega (arith, bytes i)))) (true-or-false (held-by q (occurrences w t) i)))
 
 -- the positions of the holds among frames, ascending
 unfoldable pub holds-of : (frames : List ℕ) → List ℕ
@@ -133,19 +126,19 @@ holds-listed q w t h bytes =
 
 -- holds inside the first of two lists are marked there
 with-holds-append :
-    (q low high : ℕ) (l first second : List ℕ) → Ascends low high l → high ≤ length first - q →
-    with-holds q l (first ++ second) ≡ with-holds q l first ++ second
+    (x q low high : ℕ) (l first second : List ℕ) → Ascends low high l → high ≤ length first - q →
+    with-holds x q l (first ++ second) ≡ with-holds x q l first ++ second
 unfolding with-holds
-with-holds-append q low high [] first second a h = refl
-with-holds-append q low high (b ∷ later) first second a h =
-    let h' : high ≤ length (set first (b + q) hold) - q = rw length-set h in
-    rw (set-append-left first second (b + q) hold (omega arith))
-    (with-holds-append q (suc b) high later (set first (b + q) hold) second (a .2) h')
+with-holds-append x q low high [] first second a h = refl
+with-holds-append x q low high (b ∷ later) first second a h =
+    let h' : high ≤ length (set first (b + q) x) - q = rw length-set h in
+    rw (set-append-left first second (b + q) x (omega arith))
+    (with-holds-append x q (suc b) high later (set first (b + q) x) second (a .2) h')
 
 -- holds that are marked after the text is in front of a buffer: the frames are in front of it
 pub frames-in-front :
-    (q : ℕ) (w t buffer : List ℕ) → q < length w → with-holds q (occurrences w t) (in-front t buffer) ≡ in-front (frames q w t) buffer
+    (q : ℕ) (w t buffer : List ℕ) → q < length w → with-holds hold q (occurrences w t) (in-front t buffer) ≡ in-front (frames q w t) buffer
 unfolding in-front frames
 frames-in-front q w t buffer h =
     rw length-with-holds
-    (with-holds-append q 0 (length t - q) (occurrences w t) t (drop (length t) buffer) (occurrences-hold q w t h) (omega arith))
+    (with-holds-append hold q 0 (length t - q) (occurrences w t) t (drop (length t) buffer) (occurrences-hold q w t h) (omega arith))

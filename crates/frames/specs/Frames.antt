@@ -8,11 +8,11 @@ use Rattle.steps.specs.Occurrences.{occurrences}
 abbrev pub hold : ℕ
 hold = 256
 
--- the frames with a hold at b + q for every b of a list
-unfoldable pub with-holds : (q : ℕ) → (positions frames : List ℕ) → List ℕ
-with-holds q [] frames = frames
-with-holds q (b ∷ later) frames = with-holds q later (set frames (b + q) hold)
+-- the frames after frame b + q is set to this one for every b of a list
+unfoldable pub with-holds : (frame q : ℕ) → (positions frames : List ℕ) → List ℕ
+with-holds x q [] frames = frames
+with-holds x q (b ∷ later) frames = with-holds x q later (set frames (b + q) x)
 
 -- conversion copies each byte of the text to a move, then makes frame b + q a hold for every occurrence (find) b
 unfoldable pub frames : (q : ℕ) → (w t : List ℕ) → List ℕ
-frames q w t = with-holds q (occurrences w t) t
+frames q w t = with-holds hold q (occurrences w t) t

@@ -5,8 +5,6 @@ ghost use lib.ListN.{length, getD};
 ghost use Rattle.answers.specs.Buffers.{in-front};
 ghost use Rattle.frames.specs.Frames.{with-holds};
 
-const HOLD: u16 = 256;
-
 // Copies each byte of a text to a move. It is public for the crate that converts, which has measured the buffer.
 pub fn write_moves(text: &[u8], frames: &mut [u16])
     requires { ⌜ length (now text) ≤ length (now frames) ⌝ }
@@ -17,13 +15,13 @@ pub fn write_moves(text: &[u8], frames: &mut [u16])
     }
 }
 
-// Makes frame b + q a hold for every entry b, q being the hold offset (hold place). It is public for the crate that converts, whose
+// Sets frame b + q to `hold` for every entry b, q being the hold offset (hold place). It is public for the crate that converts, whose
 // entries are occurrences.
-pub fn mark_holds(found: &[u16], hold: usize, frames: &mut [u16])
-    requires { ⌜ ((i : ℕ) → i < length (now found) → getD (now found) i 0 + hold < length (now frames)) ⌝ }
-    ensures { λ r. ⌜ now (frames .exit) ≡ with-holds hold (now (found .entry)) (now (frames .entry)) ⌝ }
+pub fn mark_holds(hold: u16, found: &[u16], hold_offset: usize, frames: &mut [u16])
+    requires { ⌜ ((i : ℕ) → i < length (now found) → getD (now found) i 0 + «hold_offset» < length (now frames)) ⌝ }
+    ensures { λ r. ⌜ now (frames .exit) ≡ with-holds hold «hold_offset» (now (found .entry)) (now (frames .entry)) ⌝ }
 {
     for i in 0..found.len() {
-        frames[found[i] as usize + hold] = HOLD;
+        frames[found[i] as usize + hold_offset] = hold;
     }
 }

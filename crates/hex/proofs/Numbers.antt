@@ -1,10 +1,11 @@
 -- A number written in digits and read again, and digits read and written again.
 -- Both by induction on how many digits, in a file whose bytes from a place on are known: `drop at file ≡ digits ++ rest`.
-use mathlib.Core.Bool.{Bool, true, false, true≢false}
+use mathlib.Core.Bool.{Bool, true, false}
 use mathlib.Core.List.{List, [], _∷_, _++_}
 use mathlib.Core.Path.{_≡_, refl, sym, ap, _∙_}
 use Prim.Native.Nat.{ℕ, zero, suc, _+_, _*_, _/_, _%_, _^_, _<_}
-use native.Mathlib.Nat.{add-zero, add-suc, suc-add, mod-lt, mod-one, mod-eq-of-lt, one-le-pow, pow-succ', mul-assoc, mul-add-div-right, mul-add-mod-self-right}
+use native.Mathlib.Nat.{add-zero, add-suc, suc-add, mod-lt, mod-one, mod-eq-of-lt, one-le-pow, pow-succ'}
+use native.Mathlib.Nat.{mul-assoc, mul-add-div-right, mul-add-mod-self-right}
 use native.Mathlib.Numerals.{add-one}
 use native.Mathlib.Omega.{arith}
 use borrow.Author.Tests.{ltb-true, ltb-false}
@@ -12,11 +13,11 @@ use lib.Arith.{digits-lt, digits-div, mod-mul}
 use lib.Dec.{ltb}
 use lib.ListN.{length, drop, getD, List·getD-eq-default}
 use lib.Seq.{getD-drop, drop-drop, drop-cons, drop-at}
-use Rattle.hex.proofs.Digits.{below-digits, digit-is-digit, value-of-digit, value-below, digit-of-value}
+use Rattle.hex.proofs.Digits.{digit-from, digit-is-digit, value-of-digit, value-below, digit-of-value}
 use Rattle.hex.proofs.Table.{and-left, and-right}
 use Rattle.hex.specs.Hex.{is-digit, digit-value, digit, digits, all-digits, number}
 
--- where a file's bytes from a place on are known: what stands past some of them, and which byte stands at the place
+-- if a file's bytes are known from a place on: what stands past some of them, and which byte stands at the place
 pub bytes-past : (a n : ℕ) (bs xs rest : List ℕ) → drop a bs ≡ xs ++ rest → length xs ≡ n → drop (a + n) bs ≡ rest
 bytes-past a n bs xs rest e k = sym (drop-drop n a bs) ∙ rw e (drop-at xs rest n k)
 
@@ -88,11 +89,7 @@ unfolding all-digits number
 number-below zero a bs e = omega arith
 number-below (suc n) a bs e =
     rw (pow-succ' 16 n)
-    (digits-lt (value-below _ (and-left _ _ e)) (number-below n (suc a) bs (and-right (is-digit (getD bs a 0)) (all-digits n (suc a) bs) e)))
-
-digit-positive : (b : ℕ) → is-digit b ≡ true → 0 < b
-digit-positive zero e = absurd (true≢false (sym e ∙ below-digits zero (omega arith)))
-digit-positive (suc b) e = omega arith
+    (digits-lt (value-below _ (and-left _ _ e)) (number-below n (suc a) bs (and-right (is-digit (getD bs a 0)) _ e)))
 
 -- digits read and written again
 pub digits-read : (n a : ℕ) (bs : List ℕ) → all-digits n a bs ≡ true → drop a bs ≡ digits n (number n a bs) ++ drop (a + n) bs
@@ -103,7 +100,7 @@ digits-read (suc n) a bs e =
     let first = and-left (is-digit b) (all-digits n (suc a) bs) e in
     let later = and-right (is-digit b) (all-digits n (suc a) bs) e in
     let low = number n (suc a) bs in
-    byte-stands a b bs refl (digit-positive b first)
+    byte-stands a b bs refl (omega (arith, digit-from b first))
     ∙ rw (
       digits-higher n (digit-value b) low,
       digits-div (digit-value b) (number-below n (suc a) bs later),

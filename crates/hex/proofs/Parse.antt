@@ -1,4 +1,4 @@
--- What the cases of `Parsed` say: a value is answered just where the bytes are good, and is theirs; a refusal just where they are not.
+-- What the cases of `Parsed` say: a value is answered just if the bytes are good, and is theirs; a refusal just if they are not.
 -- By the number that each case has.
 use mathlib.Core.Bool.{Bool, true, false, cond}
 use mathlib.Core.Path.{_≡_, refl, sym, ap, _∙_}
@@ -27,15 +27,13 @@ pub told-bad : (good : Bool) → _≡_ {A = ℕ} 2 (cond good 0 2) → good ≡ 
 told-bad true e = absurd (eqb-false 2 0 refl e)
 told-bad false e = refl
 
--- what a case that was come to by a match says
+-- what a case says once a match has told it
 module _ (good : Bool) (value : ℕ) (r : Parsed) (o : Parsed-outcome good value r) where
-  pub value-good : (v : ℕ) → r ≡ Value v → good ≡ true
-  unfolding parsed-status
-  value-good v e = told-good good (sym (ap parsed-status e) ∙ o .status)
-
-  pub value-is : (v : ℕ) → r ≡ Value v → v ≡ value
-  unfolding parsed-value
-  value-is v e = sym (ap parsed-value e) ∙ o .result ∙ ap (λ (b : Bool). cond b value 0) (value-good v e)
+  pub value-read : (v : ℕ) → r ≡ Value v → (good ≡ true) × (v ≡ value)
+  unfolding parsed-status parsed-value
+  value-read v e =
+      let known = told-good good (sym (ap parsed-status e) ∙ o .status) in
+      (known, sym (ap parsed-value e) ∙ o .result ∙ ap (λ (b : Bool). cond b value 0) known)
 
   pub refused-bad : r ≡ Refused → good ≡ false
   unfolding parsed-status
@@ -43,4 +41,4 @@ module _ (good : Bool) (value : ℕ) (r : Parsed) (o : Parsed-outcome good value
 
 -- a digit that was read is below 16
 pub digit-below : (b : ℕ) (r : Parsed) → Parsed-outcome (is-digit b) (digit-value b) r → (v : ℕ) → r ≡ Value v → v < 16
-digit-below b r o v e = rw (value-is _ _ r o v e) (value-below b (value-good _ _ r o v e))
+digit-below b r o v e = let (digit, is) = value-read _ _ r o v e in rw is (value-below b digit)

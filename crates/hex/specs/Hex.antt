@@ -1,4 +1,4 @@
--- Capital hexadecimal: digits, numbers written in digits, and numbers read from digits (document 01, "The job file"). These are definitions.
+-- Capital hexadecimal (document 01, "The job file"): digits, and numbers written in digits and read from them. These are definitions.
 use mathlib.Core.Bool.{Bool, true, _&&_, _||_, cond}
 use mathlib.Core.List.{List, [], _∷_}
 use Prim.Native.Nat.{ℕ, zero, suc, _+_, _*_, _-_, _/_, _%_, _^_}
@@ -17,17 +17,17 @@ digit-value b = cond (leb b 0x39) (b - 0x30) (b - 0x37)
 unfoldable pub digit : (value : ℕ) → ℕ
 digit v = cond (ltb v 10) (0x30 + v) (0x37 + v)
 
--- a number in so many digits
+-- a number written in so many digits
 unfoldable pub digits : (count : ℕ) → (number : ℕ) → List ℕ
 digits zero v = []
 digits (suc n) v = digit (v / 16 ^ n % 16) ∷ digits n v
 
--- so many bytes of a file are digits, from a place on
+-- whether so many bytes of a file, from a place on, are all digits
 unfoldable pub all-digits : (count : ℕ) → (at : ℕ) → (file : List ℕ) → Bool
 all-digits zero a bs = true
 all-digits (suc n) a bs = is-digit (getD bs a 0) && all-digits n (suc a) bs
 
--- the number that so many digits of a file give, from a place on
+-- the number that so many digits of a file, from a place on, make
 unfoldable pub number : (count : ℕ) → (at : ℕ) → (file : List ℕ) → ℕ
 number zero a bs = 0
 number (suc n) a bs = digit-value (getD bs a 0) * 16 ^ n + number n (suc a) bs

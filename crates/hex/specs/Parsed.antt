@@ -1,4 +1,4 @@
--- What bytes are read as: document 01's number and value for each case of the enum. These are definitions.
+-- Bytes read as a number: document 01's number and value for each case of the enum. These are definitions.
 use mathlib.Core.Bool.{Bool, cond}
 use mathlib.Core.Path.{_≡_}
 use Prim.Native.Nat.{ℕ}
@@ -15,7 +15,7 @@ unfoldable pub parsed-value : Parsed → ℕ
 parsed-value (Value v) = v
 parsed-value Refused = 0
 
--- what reading bytes answers: their value where they are good, else refusal 2
+-- what reading bytes answers: their value if they are good, and refusal 2 if not
 pub record Parsed-outcome (good : Bool) (value : ℕ) (r : Parsed) : Type 0 where
   pub status : parsed-status r ≡ cond good 0 2
   pub result : parsed-value r ≡ cond good value 0

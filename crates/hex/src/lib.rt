@@ -1,28 +1,39 @@
 // Capital hexadecimal digits: a byte read as a digit, and the digit of a value.
 ghost use mathlib.Core.Path.{_≡_};
-ghost use Prim.Native.Nat.{_%_};
+ghost use Prim.Native.Nat.{_%_, _≤_};
 ghost use Rattle.hex.specs.Parsed.{Parsed-outcome};
 ghost use Rattle.hex.specs.Hex.{is-digit, digit-value, digit};
 
-// What bytes are read as.
+// Bytes read as a number, or refused.
 pub enum Parsed {
     Value(u8),
     // refusal 2: a byte that is not the digit or line end due there
     Refused,
 }
 
-// The value of the digit that a byte is.
+// The value of a digit. It is public for the crate that reads lines: once they are checked, their digits need no test for refusal 2 again.
+pub fn value_of(digit: u8) -> u8
+    requires { ⌜ 0x30 ≤ digit ⌝ }
+    ensures { λ r. ⌜ r ≡ digit-value digit ⌝ }
+{
+    if digit <= 0x39 {
+        digit - 0x30
+    } else {
+        digit - 0x37
+    }
+}
+
+// A byte read as a digit: its value, or refusal 2.
 pub fn digit_value(byte: u8) -> Parsed
     ensures { λ r. ⌜ Parsed-outcome (is-digit byte) (digit-value byte) r ⌝ }
 {
     match byte {
-        0x30..=0x39 => Parsed::Value(byte - 0x30),
-        0x41..=0x46 => Parsed::Value(byte - 0x37),
+        0x30..=0x39 | 0x41..=0x46 => Parsed::Value(value_of(byte)),
         _ => Parsed::Refused,
     }
 }
 
-// The digit of a value: of its last hexadecimal place, where it has more.
+// The digit of a value below 16; of a larger one, of its last hexadecimal place.
 pub fn digit_of(value: u8) -> u8
     ensures { λ r. ⌜ r ≡ digit (value % 16) ⌝ }
 {

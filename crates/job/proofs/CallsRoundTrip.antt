@@ -1,5 +1,5 @@
 -- The round trips of the calls, for every outcome that their contracts allow.
--- Of a call that answers 0 no condition holds, so its buffers have in front what the definitions give; the definitions' round trips do the rest.
+-- If a call answers 0, no condition holds, so its buffers start with what the definitions give; the definitions' round trips do the rest.
 use mathlib.Core.List.{List}
 use mathlib.Core.Path.{_≡_, sym, ap, _∙_}
 use Prim.Native.Nat.{ℕ}
@@ -9,7 +9,7 @@ use Rattle.answers.proofs.Fronts.{in-front-take}
 use Rattle.answers.specs.Answers.{if-done}
 use Rattle.job.proofs.Lengths.{length-file, length-pattern, length-text}
 use Rattle.job.proofs.RoundTrip.{written-read, read-written, m-written, n-written}
-use Rattle.job.proofs.Taken.{taken, taken-done, readable, readable-done, writable, writable-done}
+use Rattle.job.proofs.Taken.{file-taken, file-taken-done, readable, readable-done, writable, writable-done}
 use Rattle.job.specs.Job.{job-file, file-length, m-in, q-in, n-in, pattern-in, text-in}
 use Rattle.job.specs.Promises.{Read-back, Written-back, Written-read, Read-written, Calls-written-read, Calls-read-written}
 use Rattle.job.specs.Read.{Read-outcome-of, read-answer}
@@ -29,7 +29,7 @@ module _ {bs p p' x x' : List ℕ} {r : ReadAnswer} where
       record {
         done = rw (o .answer);
         m = rw (o .answer, length-pattern bs);
-        hold = rw (o .answer);
+        hold-offset = rw (o .answer);
         n = rw (o .answer, length-text bs);
         pattern = rw (o .answer, o .pattern-left) (in-front-take (pattern-in bs) p (m-in bs) (length-pattern bs));
         text = rw (o .answer, o .text-left) (in-front-take (text-in bs) x (n-in bs) (length-text bs));
@@ -58,12 +58,12 @@ calls-written-read q w t f f' a hw ht o e p p' x x' r i lp lx =
     let written = sym (write-status-of o) ∙ e in
     let limits = writable (length w) q (length t) (length f) written .limits in
     let left = written-back (rw written at o) in
-    let gives = written-read q w t hw ht (limits .hold) (limits .pattern) (limits .text) in
+    let gives = written-read q w t hw ht (limits .hold-offset) (limits .pattern) (limits .text) in
     let m : m-in file ≡ length w = m-written q w t (omega arith) in
     let n : n-in file ≡ length t = n-written q w t (omega arith) in
-    let file-taken = taken file (gives .taken) in
-    let read = readable-done file (length p) (length x) record { file-taken = file-taken; pattern-room = omega arith; text-room = omega arith } in
-    rw (gives .hold, gives .pattern, gives .text) at (read-back (rw read at (rw (left .written) at i)))
+    let taken = file-taken file (gives .taken) in
+    let read = readable-done file (length p) (length x) record { taken = taken; pattern-room = omega arith; text-room = omega arith } in
+    rw (gives .hold-offset, gives .pattern, gives .text) at (read-back (rw read at (rw (left .written) at i)))
 
 pub calls-read-written : Calls-read-written
 unfolding Calls-read-written Read-written
@@ -71,9 +71,10 @@ calls-read-written bs p p' x x' r o e f f' a i l =
     let w = pattern-in bs in
     let t = text-in bs in
     let read = sym (read-status-of o) ∙ e in
-    let file-taken = readable bs (length p) (length x) read .file-taken in
+    let taken = readable bs (length p) (length x) read .taken in
     let left = read-back (rw read at o) in
     let m = length-pattern bs in
     let n = length-text bs in
     let written = writable-done (length w) (q-in bs) (length t) (length f) (omega arith) in
-    rw (read-written bs (taken-done bs file-taken)) at (written-back (rw written at (rw (left .hold, left .pattern, left .text) at i)))
+    let given = rw (left .hold-offset, left .pattern, left .text) at i in
+    rw (read-written bs (file-taken-done bs taken)) at (written-back (rw written at given))

@@ -3,7 +3,6 @@
 use mathlib.Core.List.{List}
 use mathlib.Core.Path.{_≡_, refl, ap}
 use Prim.Native.Nat.{ℕ, zero, suc, _+_, _*_}
-use native.Mathlib.Omega.{arith}
 use lib.ListN.{length, length-append}
 use Rattle.hex.specs.Hex.{digits}
 use Rattle.lines.proofs.Lines.{length-lines}
@@ -16,7 +15,7 @@ length-first-line m q n = refl
 
 pub length-file : (q : ℕ) (w t : List ℕ) → length (job-file q w t) ≡ file-length (length w) (length t)
 unfolding job-file
-length-file q w t = rw (length-append, length-append, length-first-line, length-lines, length-lines)
+length-file q w t = simp (length-append, length-first-line, length-lines)
 
 pub length-bytes : (n a : ℕ) (bs : List ℕ) → length (bytes-in n a bs) ≡ n
 unfolding bytes-in

@@ -11,15 +11,17 @@ use borrow.Author.Tests.{eqb-true}
 use lib.Dec.{eqb}
 use lib.ListN.{length, drop, getD}
 use lib.Seq.{drop-length}
+use Rattle.answers.specs.Bytes.{Bytes}
 use Rattle.hex.proofs.Numbers.{bytes-past, byte-there, byte-stands, length-digits, all-digits-written, number-written, digits-read}
 use Rattle.hex.proofs.Table.{and-left, and-right}
 use Rattle.hex.specs.Hex.{digits, all-digits, number}
 use Rattle.job.proofs.Lengths.{length-file, length-pattern, length-text}
 use Rattle.lines.proofs.Lines.{length-lines}
 use Rattle.lines.specs.Lines.{line-end, line, lines}
-use Rattle.job.proofs.Taken.{taken, taken-done}
-use Rattle.job.specs.Job.{first-line, job-file, file-length, edition-in, m-in, q-in, n-in, bytes-in, pattern-in, text-in, good-line, good-lines}
-use Rattle.job.specs.Promises.{Bytes, Written-read, Read-written}
+use Rattle.job.proofs.Taken.{file-taken, file-taken-done}
+use Rattle.job.specs.Job.{first-line, job-file, file-length, edition-in, m-in, q-in, n-in}
+use Rattle.job.specs.Job.{bytes-in, pattern-in, text-in, good-line, good-lines}
+use Rattle.job.specs.Promises.{Written-read, Read-written}
 
 -- the ten digits of the first line, as the numbers that they make
 ten-digits : (bs : List ℕ) → all-digits 10 0 bs ≡ all-digits 2 0 bs && (all-digits 2 2 bs && (all-digits 2 4 bs && all-digits 4 6 bs))
@@ -94,7 +96,7 @@ module _ (q : ℕ) (w t : List ℕ) where
   unfolding m-in job-file first-line digits line
   m-written h = let bs = job-file q w t in number-written 2 (length w) 2 bs (drop 4 bs) refl ∙ mod-eq-of-lt h
 
-  pub q-written : q < 256 → q-in (job-file q w t) ≡ q
+  q-written : q < 256 → q-in (job-file q w t) ≡ q
   unfolding q-in job-file first-line digits line
   q-written h = let bs = job-file q w t in number-written 2 q 4 bs (drop 6 bs) refl ∙ mod-eq-of-lt h
 
@@ -118,10 +120,10 @@ written-read q w t hw ht hq hm hn =
     let second = text-there q w t in
     let m : m-in file ≡ length w = m-written q w t (omega arith) in
     let n : n-in file ≡ length t = n-written q w t (omega arith) in
-    let hold : q-in file ≡ q = q-written q w t (omega arith) in
+    let hold-offset : q-in file ≡ q = q-written q w t (omega arith) in
     record {
       taken =
-          taken-done
+          file-taken-done
           file
           record {
             long = omega (arith, length-file q w t);
@@ -138,7 +140,7 @@ written-read q w t hw ht hq hm hn =
                   lines-written t (11 + 3 * length w) file [] second,
                 );
           };
-      hold = hold;
+      hold-offset = hold-offset;
       pattern = rw m (bytes-written w 11 file (lines 2 t) hw first);
       text = rw (m, n) (bytes-written t (11 + 3 * length w) file [] ht second);
     }
@@ -178,7 +180,7 @@ first-read bs e h =
 pub read-written : Read-written
 unfolding Read-written job-file pattern-in text-in
 read-written bs e =
-    let f = taken bs e in
+    let f = file-taken bs e in
     let both = rw (good-lines-split (m-in bs) (n-in bs) 11 bs) at (f .rest) in
     let first = first-read bs (f .first) (f .edition) in
     let m = lines-read (m-in bs) 11 bs (and-left _ _ both) in

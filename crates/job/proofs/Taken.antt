@@ -1,4 +1,4 @@
--- What it is that the status of a file, of reading or of writing is 0: a fact for each of the conditions, none of which holds.
+-- What a status of 0 says, of a file, of reading and of writing: a fact for each condition, since none of them holds.
 -- The tests of the conditions, turned into facts and back.
 use mathlib.Core.Bool.{true, not}
 use mathlib.Core.List.{List, [], _∷_, _++_}
@@ -14,7 +14,7 @@ use Rattle.job.specs.Read.{read-status}
 use Rattle.job.specs.Write.{write-status}
 
 -- a file is taken
-pub record Taken (file : List ℕ) : Type 0 where
+pub record File-taken (file : List ℕ) : Type 0 where
   pub long : 11 ≤ length file
   pub first : good-line 10 0 file ≡ true
   pub edition : edition-in file ≡ 1
@@ -22,9 +22,9 @@ pub record Taken (file : List ℕ) : Type 0 where
   pub size : length file ≡ file-length (m-in file) (n-in file)
   pub rest : good-lines (m-in file + n-in file) 11 file ≡ true
 
--- with whatever conditions stand past the file's own
+-- with any conditions past the file's own
 module _ (file : List ℕ) (rs : List Refusal) where
-  facts : None-holds (file-refusals file ++ rs) → Taken file × None-holds rs
+  facts : None-holds (file-refusals file ++ rs) → File-taken file × None-holds rs
   unfolding file-refusals job-refusals
   facts h =
       let (limits, sizes) = limits-hold (m-in file) (q-in file) (n-in file) (h .1 .1 .1) in (
@@ -39,7 +39,7 @@ module _ (file : List ℕ) (rs : List Refusal) where
         sizes .1 .1,
       )
 
-  none : Taken file → None-holds rs → None-holds (file-refusals file ++ rs)
+  none : File-taken file → None-holds rs → None-holds (file-refusals file ++ rs)
   unfolding file-refusals job-refusals
   none t later = (
     le-ltb _ _ (t .long),
@@ -53,52 +53,52 @@ module _ (file : List ℕ) (rs : List Refusal) where
   )
 
 module _ (file : List ℕ) where
-  pub taken : file-status file ≡ 0 → Taken file
+  pub file-taken : file-status file ≡ 0 → File-taken file
   unfolding file-status file-refusals job-refusals
-  taken e = facts file [] (done-none (file-refusals file) (omega arith) e) .0
+  file-taken e = facts file [] (done-none (file-refusals file) (omega arith) e) .0
 
-  pub taken-done : Taken file → file-status file ≡ 0
+  pub file-taken-done : File-taken file → file-status file ≡ 0
   unfolding file-status file-refusals job-refusals
-  taken-done t = none-done (file-refusals file) (none file [] t tt)
+  file-taken-done t = none-done (file-refusals file) (none file [] t tt)
 
 -- a file is read: it is taken, and the buffers have room
-pub record Readable (file : List ℕ) (pattern text : ℕ) : Type 0 where
-  pub file-taken : Taken file
-  pub pattern-room : m-in file ≤ pattern
-  pub text-room : n-in file ≤ text
+pub record Readable (file : List ℕ) (pattern-len text-len : ℕ) : Type 0 where
+  pub taken : File-taken file
+  pub pattern-room : m-in file ≤ pattern-len
+  pub text-room : n-in file ≤ text-len
 
-module _ (file : List ℕ) (pattern text : ℕ) where
+module _ (file : List ℕ) (pattern-len text-len : ℕ) where
   abbrev rooms : List Refusal
-  rooms = buffer-refusal pattern (m-in file) ∷ buffer-refusal text (n-in file) ∷ []
+  rooms = buffer-refusal pattern-len (m-in file) ∷ buffer-refusal text-len (n-in file) ∷ []
 
-  pub readable : read-status file pattern text ≡ 0 → Readable file pattern text
+  pub readable : read-status file pattern-len text-len ≡ 0 → Readable file pattern-len text-len
   unfolding read-status file-refusals job-refusals
   readable e =
-      let (file-taken, room) = facts file rooms (done-none (file-refusals file ++ rooms) (omega arith) e) in
-      record { file-taken = file-taken; pattern-room = ltb-false _ _ (room .0); text-room = ltb-false _ _ (room .1 .0) }
+      let (taken, room) = facts file rooms (done-none (file-refusals file ++ rooms) (omega arith) e) in
+      record { taken = taken; pattern-room = ltb-false _ _ (room .0); text-room = ltb-false _ _ (room .1 .0) }
 
-  pub readable-done : Readable file pattern text → read-status file pattern text ≡ 0
+  pub readable-done : Readable file pattern-len text-len → read-status file pattern-len text-len ≡ 0
   unfolding read-status
   readable-done r =
       none-done
       (file-refusals file ++ rooms)
-      (none file rooms (r .file-taken) (le-ltb _ _ (r .pattern-room), (le-ltb _ _ (r .text-room), tt)))
+      (none file rooms (r .taken) (le-ltb _ _ (r .pattern-room), (le-ltb _ _ (r .text-room), tt)))
 
 -- a job is written: it is within the limits, and the buffer has room
-pub record Writable (m q n file : ℕ) : Type 0 where
+pub record Writable (m q n file-len : ℕ) : Type 0 where
   pub limits : Within-limits m q n
-  pub file-room : file-length m n ≤ file
+  pub file-room : file-length m n ≤ file-len
 
-module _ (m q n file : ℕ) where
+module _ (m q n file-len : ℕ) where
   abbrev write-refusals : List Refusal
-  write-refusals = job-refusals m q n ++ (buffer-refusal file (file-length m n) ∷ [])
+  write-refusals = job-refusals m q n ++ (buffer-refusal file-len (file-length m n) ∷ [])
 
-  pub writable : write-status m q n file ≡ 0 → Writable m q n file
+  pub writable : write-status m q n file-len ≡ 0 → Writable m q n file-len
   unfolding write-status job-refusals
   writable e =
       let (limits, room) = limits-hold m q n (done-none write-refusals (omega arith) e) in
       record { limits = limits; file-room = ltb-false _ _ (room .0) }
 
-  pub writable-done : Writable m q n file → write-status m q n file ≡ 0
+  pub writable-done : Writable m q n file-len → write-status m q n file-len ≡ 0
   unfolding write-status job-refusals
   writable-done w = none-done write-refusals (limits-none m q n (w .limits) (le-ltb _ _ (w .file-room), tt))

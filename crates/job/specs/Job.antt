@@ -33,7 +33,7 @@ q-in bs = number 2 4 bs
 unfoldable pub n-in : (file : List ℕ) → ℕ
 n-in bs = number 4 6 bs
 
--- the bytes (cards) that so many lines of a file give, from a place on
+-- the bytes (cards) that so many lines of a file, from a place on, give
 unfoldable pub bytes-in : (count at : ℕ) → (file : List ℕ) → List ℕ
 bytes-in zero a bs = []
 bytes-in (suc n) a bs = number 2 a bs ∷ bytes-in n (a + 3) bs
@@ -45,11 +45,11 @@ pattern-in bs = bytes-in (m-in bs) 11 bs
 unfoldable pub text-in : (file : List ℕ) → List ℕ
 text-in bs = bytes-in (n-in bs) (11 + 3 * m-in bs) bs
 
--- a line of so many digits and the line end stands at a place of a file
+-- whether a line stands at a place of a file: so many digits and the line end
 unfoldable pub good-line : (count at : ℕ) → (file : List ℕ) → Bool
 good-line n a bs = all-digits n a bs && eqb (getD bs (a + n) 0) line-end
 
--- so many lines of two digits stand in a file, from a place on
+-- whether so many lines of two digits stand in a file from a place on
 unfoldable pub good-lines : (count at : ℕ) → (file : List ℕ) → Bool
 good-lines zero a bs = true
 good-lines (suc n) a bs = good-line 2 a bs && good-lines n (a + 3) bs
@@ -63,6 +63,6 @@ file-refusals bs =
     ∷ job-refusals (m-in bs) (q-in bs) (n-in bs)
     ++ (refuse 1 (not (eqb (length bs) (file-length (m-in bs) (n-in bs)))) ∷ refuse 2 (not (good-lines (m-in bs + n-in bs) 11 bs)) ∷ [])
 
--- the number that a file is turned away by, where buffers are long enough; 0 where it is taken
+-- the number by which a file is turned away, with buffers that are long enough; 0 if it is taken
 unfoldable pub file-status : (file : List ℕ) → ℕ
 file-status bs = first-of (file-refusals bs)

@@ -1,9 +1,10 @@
 -- What is promised of job files: written and read again, and read and written again, of the definitions and of the calls.
 -- Each is a type, and its proof is in proofs/. These are definitions.
-use mathlib.Core.List.{List, [], _∷_}
+use mathlib.Core.List.{List}
 use mathlib.Core.Path.{_≡_}
 use Prim.Native.Nat.{ℕ, _≤_, _<_}
 use lib.ListN.{length, take}
+use Rattle.answers.specs.Bytes.{Bytes}
 use Rattle.answers.specs.Refusals.{longest-pattern, longest-text}
 use Rattle.job.specs.Job.{job-file, file-status, q-in, pattern-in, text-in}
 use Rattle.job.specs.Read.{Read-outcome}
@@ -11,15 +12,10 @@ use Rattle.job.specs.Write.{Write-outcome}
 use Rattle.job.specs.declared.ReadAnswer.{ReadAnswer}
 use Rattle.job.specs.declared.WriteAnswer.{WriteAnswer}
 
--- each entry is a byte (card), as in every slice of u8
-unfoldable pub Bytes : List ℕ → Type 0
-Bytes [] = Unit {0}
-Bytes (b ∷ bs) = (b < 256) × Bytes bs
-
 -- a file is taken, and gives this hold offset (hold place), pattern (motif) and text (chain)
 pub record Gives (file : List ℕ) (q : ℕ) (w t : List ℕ) : Type 0 where
   pub taken : file-status file ≡ 0
-  pub hold : q-in file ≡ q
+  pub hold-offset : q-in file ≡ q
   pub pattern : pattern-in file ≡ w
   pub text : text-in file ≡ t
 
@@ -37,7 +33,7 @@ Read-written = (file : List ℕ) → file-status file ≡ 0 → job-file (q-in f
 pub record Read-back (q : ℕ) (w t pattern' text' : List ℕ) (r : ReadAnswer) : Type 0 where
   pub done : r .answer .status ≡ 0
   pub m : r .m ≡ length w
-  pub hold : r .q ≡ q
+  pub hold-offset : r .q ≡ q
   pub n : r .n ≡ length t
   pub pattern : take (r .m) pattern' ≡ w
   pub text : take (r .n) text' ≡ t

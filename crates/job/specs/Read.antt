@@ -10,7 +10,7 @@ use Rattle.job.specs.Job.{file-refusals, m-in, q-in, n-in, pattern-in, t
 use Rattle.job.specs.declared.ReadAnswer.{ReadAnswer}
 
 -- the status of reading: the file's refusals, then 7; needed are m entries for the pattern (motif) and n for the text (chain)
-unfoldable pub read-status : (file : List ℕ) → (pattern text : ℕ) → ℕ
+unfoldable pub read-status : (file : List ℕ) → (pattern-len text-len : ℕ) → ℕ
 read-status bs p t = first-of (file-refusals bs ++ (buffer-refusal p (m-in bs) ∷ buffer-refusal t (n-in bs) ∷ []))
 
 -- reading works out none of finds, looks and holes; it also answers m, q and n

@@ -10,7 +10,7 @@ use Rattle.job.specs.Job.{job-file, file-length}
 use Rattle.job.specs.declared.WriteAnswer.{WriteAnswer}
 
 -- the status of writing: 4, 5, 6, 7; needed is the file's length
-unfoldable pub write-status : (m q n : ℕ) → (file : ℕ) → ℕ
+unfoldable pub write-status : (m q n : ℕ) → (file-len : ℕ) → ℕ
 write-status m q n f = first-of (job-refusals m q n ++ (buffer-refusal f (file-length m n) ∷ []))
 
 -- writing works out none of finds, looks and holes; it also answers the file's length

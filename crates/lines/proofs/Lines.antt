@@ -1,10 +1,9 @@
 -- Lines of numbers: how long they are, put together, and a number's digits from the last one on.
 -- By induction on the numbers, and by arithmetic.
 use mathlib.Core.List.{List, [], _∷_, _++_, append-assoc, append-nil}
-use mathlib.Core.Path.{_≡_, refl, sym}
+use mathlib.Core.Path.{_≡_, sym}
 use Prim.Native.Nat.{ℕ, suc, _+_, _*_, _/_, _%_, _^_}
 use native.Mathlib.Nat.{pow-suc, mod-mod, div-div-eq-div-mul, mul-zero, mul-suc, add-comm}
-use native.Mathlib.Omega.{arith}
 use lib.ListN.{length, length-append}
 use Rattle.hex.proofs.Numbers.{length-digits}
 use Rattle.hex.specs.Hex.{digit, digits}
@@ -19,13 +18,10 @@ unfolding lines
 length-lines n [] = sym (mul-zero (n + 1))
 length-lines n (v ∷ vs) = rw (length-append, length-line, length-lines n vs, mul-suc, add-comm (n + 1) ((n + 1) * length vs))
 
-pub lines-append : (n : ℕ) (vs us : List ℕ) → lines n (vs ++ us) ≡ lines n vs ++ lines n us
-unfolding lines
-lines-append n [] us = refl
-lines-append n (v ∷ vs) us = rw (lines-append n vs us, append-assoc (line n v) (lines n vs) (lines n us))
-
 pub lines-snoc : (n : ℕ) (vs : List ℕ) (v : ℕ) → lines n (vs ++ (v ∷ [])) ≡ lines n vs ++ line n v
-lines-snoc n vs v = rw lines-append (unfold lines in rw append-nil)
+unfolding lines
+lines-snoc n [] v = append-nil (line n v)
+lines-snoc n (u ∷ vs) v = rw (lines-snoc n vs v) (sym (append-assoc (line n u) (lines n vs) (line n v)))
 
 -- the digit before the last n, and the places above it
 pub digit-before : (n v : ℕ) → digits (suc n) v ≡ digit (v / 16 ^ n % 16 % 16) ∷ digits n v

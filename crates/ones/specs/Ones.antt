@@ -1,10 +1,9 @@
 -- The ones of a text (document 01: the holes of the chain), and what counting them answers. These are definitions.
 use mathlib.Core.List.{List, [], _∷_}
-use mathlib.Core.Path.{_≡_}
 use Prim.Native.Nat.{ℕ, _+_}
 use lib.Count.{ones}
 use lib.ListN.{length}
-use Rattle.answers.specs.Answers.{status-only, if-done}
+use Rattle.answers.specs.Answers.{counted, answered}
 use Rattle.answers.specs.Refusals.{first-of, text-refusal}
 use Rattle.answers.specs.declared.Answer.{Answer}
 
@@ -19,6 +18,4 @@ count-status n = first-of (text-refusal n ∷ [])
 
 -- counting works out only the holes
 unfoldable pub count-answer : (t : List ℕ) → Answer
-count-answer t =
-    let s = count-status (length t) in
-    if-done s (record { status = 0; occurrences = 0; comparisons = 0; ones = ones-of t }) (status-only s)
+count-answer t = answered (count-status (length t)) (counted (ones-of t))

@@ -5,8 +5,8 @@ ghost use lib.ListN.{length};
 ghost use Rattle.ones.specs.Ones.{ones-of, count-answer};
 use answers::Answer;
 
-// The ones of the bytes of a text (the holes of a chain).
-fn ones_of(text: &[u8]) -> u32
+// The ones of the bytes of a text (the holes of a chain). It is public for the crate that converts, which has measured the text.
+pub fn ones_of(text: &[u8]) -> u32
     requires { ⌜ length (now text) ≤ 16384 ⌝ }
     ensures { λ r. ⌜ r ≡ ones-of (now (text .entry)) ⌝ }
 {
@@ -21,13 +21,9 @@ fn ones_of(text: &[u8]) -> u32
 pub fn count_ones(text: &[u8]) -> Answer
     ensures { λ r. ⌜ r ≡ count-answer (now (text .entry)) ⌝ }
 {
-    if 16384 < text.len() {
-        return answers::status_only(6);
+    let status = answers::text_status(text.len());
+    if status != 0 {
+        return answers::status_only(status);
     }
-    Answer {
-        status: 0,
-        occurrences: 0,
-        comparisons: 0,
-        ones: ones_of(text),
-    }
+    answers::counted(ones_of(text))
 }

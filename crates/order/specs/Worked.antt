@@ -1,19 +1,19 @@
 -- What the functions that work the tables out ask of each other and leave: h_min, k_min and r_min in tables of 129 entries, and the order.
 -- These are definitions.
-use mathlib.Core.List.{List, _++_, map}
+use mathlib.Core.List.{List, map}
 use mathlib.Core.Path.{_≡_}
 use Prim.Native.Nat.{ℕ, _+_, _≤_, _<_}
 use lib.IntN.{ℤ, pos}
 use lib.ListN.{length, take, getD}
-use Rattle.answers.specs.Buffers.{in-front}
+use Rattle.answers.specs.Buffers.{from-entry}
 use Rattle.tables.specs.Facts.{Out-neg}
-use Rattle.tables.specs.Prepare.{Taken}
+use Rattle.tables.specs.Buffers.{Pattern-taken}
 use Rattle.tables.specs.Sets.{byte}
 use Rattle.tables.specs.Tables.{h-min, k-min, r-min, second-group, stored-order}
 
 -- h_min(k) is at or below a position
 pub record H-min-begun (w : List ℕ) (k from : ℕ) : Type 0 where
-  pub taken : Taken w
+  pub taken : Pattern-taken w
   pub positive : 1 ≤ k
   pub low : k ≤ from + 1
   pub high : from < length w
@@ -21,7 +21,7 @@ pub record H-min-begun (w : List ℕ) (k from : ℕ) : Type 0 where
 
 -- entry k of a table is h_min(k), for k from 1 to m
 pub record H-min-table (w : List ℕ) (table : List ℤ) : Type 0 where
-  pub taken : Taken w
+  pub taken : Pattern-taken w
   pub entry : (k : ℕ) → 1 ≤ k → k ≤ length w → getD table k (pos 0) ≡ pos (h-min w k)
 
 -- entry h is k_min(h), for h from 0 to m - 1
@@ -34,10 +34,10 @@ pub record R-min-table (w table : List ℕ) : Type 0 where
 
 -- the second group stands after the first entry of an order, and the third group begins at an entry: order' is the order afterwards
 pub record Second-group-written (w : List ℕ) (order order' : List ℤ) (begin : ℕ) : Type 0 where
-  pub written : order' ≡ in-front (take 1 order ++ map pos (second-group w)) order
+  pub written : order' ≡ from-entry 1 (map pos (second-group w)) order
   pub after : begin ≡ 1 + length (second-group w)
 
 -- the order stands in a buffer
 pub record Order-stored (w : List ℕ) (order : List ℤ) : Type 0 where
-  pub taken : Taken w
+  pub taken : Pattern-taken w
   pub stored : take (length w + 1) order ≡ stored-order w

@@ -1,15 +1,16 @@
 // The order in which an alignment compares, and Δ2 beside it, in the caller's buffers.
-ghost use mathlib.Core.List.{_++_, map};
+ghost use mathlib.Core.List.{map};
 ghost use mathlib.Core.Path.{_≡_};
 ghost use Prim.Native.Nat.{_+_, _≤_};
 ghost use lib.IntN.{pos};
-ghost use lib.ListN.{length, take};
-ghost use Rattle.answers.specs.Buffers.{in-front};
-ghost use Rattle.tables.specs.Tables.{second-group, third-group, stored-order, Δ2};
+ghost use lib.ListN.{length};
+ghost use Rattle.answers.specs.Buffers.{from-entry, in-front};
+ghost use Rattle.tables.specs.Tables.{third-group, stored-order, Δ2};
 ghost use Rattle.order.specs.Worked.{H-min-table, K-min-table, R-min-table, Second-group-written, Order-stored};
-ghost use Rattle.tables.specs.Prepare.{Taken};
+ghost use Rattle.tables.specs.Buffers.{Pattern-taken};
 
-// Writes the second group after the first entry: the h below m - 1 with k_min(h) not 0, by rising k_min. Returns where the third group begins.
+// Writes the second group after the first entry: the h below m - 1 with k_min(h) not 0, by rising k_min. Returns the index at which the
+// third group begins.
 fn write_second_group(
     pattern: &[u8],
     h_min: &[i16; 129],
@@ -34,12 +35,12 @@ fn write_second_group(
     next
 }
 
-// Writes the third group from entry `begin` on: the h below m - 1 with k_min(h) = 0, rising.
+// Writes the third group from index `begin` on: the h below m - 1 with k_min(h) = 0, rising.
 fn write_third_group(pattern: &[u8], k_min: &[u16; 129], begin: usize, order: &mut [i16])
-    requires { ⌜ Taken (now pattern) ⌝ }
+    requires { ⌜ Pattern-taken (now pattern) ⌝ }
     requires { ⌜ K-min-table (now pattern) (now «k_min») ⌝ }
     requires { ⌜ begin + length (third-group (now pattern)) ≤ length (now order) ⌝ }
-    ensures { λ r. ⌜ now (order .exit) ≡ in-front (take begin (now (order .entry)) ++ map pos (third-group (now (pattern .entry)))) (now (order .entry)) ⌝ }
+    ensures { λ r. ⌜ now (order .exit) ≡ from-entry begin (map pos (third-group (now (pattern .entry)))) (now (order .entry)) ⌝ }
 {
     let mut next = begin;
     for h in 0..pattern.len() - 1 {
@@ -64,7 +65,8 @@ pub(crate) fn write_order(pattern: &[u8], h_min: &[i16; 129], k_min: &[u16; 129]
     order[m] = -1;
 }
 
-// Writes Δ2 beside the order: 0 for the first entry, k_min(h) or, where that is 0, r_min(h) for the others, and after the last the period, r_min(0).
+// Writes Δ2 beside the order: 0 for the first entry, k_min(h) or, where that is 0, r_min(h) for the others, and after the last the
+// period, r_min(0).
 pub(crate) fn write_delta2(
     pattern: &[u8],
     order: &[i16],

@@ -6,12 +6,12 @@ ghost use mathlib.Core.Path.{_≡_};
 ghost use Prim.Native.Nat.{_+_, _≤_};
 ghost use lib.ListN.{length};
 ghost use Rattle.answers.specs.Buffers.{in-front};
-ghost use Rattle.tables.specs.Prepare.{Taken};
+ghost use Rattle.tables.specs.Buffers.{Pattern-taken};
 ghost use Rattle.tables.specs.Tables.{stored-order, Δ2};
 
 // Writes both for a pattern that is taken, in buffers that are long enough. It is public for the crate that prepares a pattern.
 pub fn write_order_and_delta2(pattern: &[u8], order: &mut [i16], delta2: &mut [u16])
-    requires { ⌜ Taken (now pattern) ⌝ }
+    requires { ⌜ Pattern-taken (now pattern) ⌝ }
     requires { ⌜ length (now pattern) + 1 ≤ length (now order) ⌝ }
     requires { ⌜ length (now pattern) + 1 ≤ length (now delta2) ⌝ }
     ensures { λ r. ⌜ now (order .exit) ≡ in-front (stored-order (now (pattern .entry))) (now (order .entry)) ⌝ }

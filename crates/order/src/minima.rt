@@ -1,11 +1,10 @@
 // Colussi's h_min, k_min and r_min, each in a table of 129 entries that are all 0 to begin with.
 ghost use mathlib.Core.Path.{_≡_};
-ghost use Prim.Native.Nat.{_≤_};
 ghost use lib.IntN.{pos};
 ghost use lib.ListN.{length, replicate};
 ghost use Rattle.tables.specs.Tables.{h-min};
 ghost use Rattle.order.specs.Worked.{H-min-begun, H-min-table, K-min-table, R-min-table};
-ghost use Rattle.tables.specs.Prepare.{Taken};
+ghost use Rattle.tables.specs.Buffers.{Pattern-taken};
 
 // h_min(k), where every position above `from` is known to agree with the one k below it: compares from there down.
 fn h_min_from(pattern: &[u8], k: usize, from: usize) -> i16
@@ -22,7 +21,7 @@ fn h_min_from(pattern: &[u8], k: usize, from: usize) -> i16
 
 // Entry k is h_min(k), for k from 1 to m, in linear time: the Z-algorithm, from the pattern's end.
 pub(crate) fn h_min_table(pattern: &[u8], h_min: &mut [i16; 129])
-    requires { ⌜ Taken (now pattern) ⌝ }
+    requires { ⌜ Pattern-taken (now pattern) ⌝ }
     requires { ⌜ length (now «h_min») ≡ 129 ⌝ }
     ensures { λ r. ⌜ H-min-table (now (pattern .entry)) (now («h_min» .exit)) ⌝ }
 {

@@ -1,22 +1,22 @@
--- How long a report is.
--- The lengths of its lines, put together.
-use mathlib.Core.List.{List, _++_}
-use mathlib.Core.Path.{_≡_}
-use Prim.Native.Nat.{ℕ, _+_, _*_}
+-- How long a report is: the lines of a list of numbers, those of the occurrences and frames, or the one line of a refusal.
+-- By induction on the list, and the lengths of the parts put together.
+use mathlib.Core.List.{List, [], _∷_}
+use mathlib.Core.Path.{_≡_, refl}
+use Prim.Native.Nat.{ℕ}
 use lib.ListN.{length, length-append}
+use Rattle.answers.specs.declared.Answer.{Answer}
 use Rattle.hex.proofs.Numbers.{length-digits}
 use Rattle.lines.proofs.Lines.{length-line, length-lines}
-use Rattle.lines.specs.Lines.{line, lines}
-use Rattle.printer.specs.Printed.{report-lines, refused-report}
+use Rattle.printer.specs.Printed.{Answer-line, numbers, number-lines, number-bytes, report-lines, report-length, refused-report}
 
--- how long a report is: the three numbers' lines, and five bytes for each occurrence and for each frame; or the one line of a refusal
-pub length-numbers : (h c o : ℕ) → length (line 4 h ++ line 8 c ++ line 8 o) ≡ 23
-length-numbers h c o = simp (length-append, length-line)
+length-number-lines : (ls : List Answer-line) (a : Answer) → length (number-lines ls a) ≡ number-bytes ls
+length-number-lines [] a = refl
+length-number-lines (l ∷ ls) a = rw (length-append, length-line, length-number-lines ls a)
 
-pub length-report-lines : (h c o : ℕ) (found frames : List ℕ)
-    → length (report-lines h c o found frames) ≡ 23 + 5 * length found + 5 * length frames
-length-report-lines h c o found frames =
-    rw (length-append, length-append, length-numbers, length-lines 4 found, length-lines 4 frames)
+pub length-report-lines : (a : Answer) (found frames : List ℕ)
+    → length (report-lines a found frames) ≡ report-length (length found) (length frames)
+length-report-lines a found frames =
+    rw (length-append, length-append, length-number-lines numbers a, length-lines 4 found, length-lines 4 frames)
 
 pub length-refused : (s : ℕ) → length (refused-report s) ≡ 5
 unfolding refused-report

@@ -1,13 +1,21 @@
-// The lines of a report, written to a caller's buffer.
-ghost use mathlib.Core.List.{_++_};
+// The lines of a report, written into a caller's buffer.
 ghost use mathlib.Core.Path.{_≡_};
 ghost use Prim.Native.Nat.{_+_, _*_, _≤_};
-ghost use lib.ListN.{length, take};
+ghost use lib.ListN.{length};
 ghost use Rattle.answers.specs.Answers.{status-only};
-ghost use Rattle.answers.specs.Buffers.{in-front};
+ghost use Rattle.answers.specs.Buffers.{from-entry};
 ghost use Rattle.lines.specs.Lines.{lines};
-ghost use Rattle.printer.specs.Printed.{report-lines, refused-report, Written};
+ghost use Rattle.printer.specs.Printed.{report-lines, refused-report, Report-written};
 use answers::Answer;
+
+// The length of the report's lines of numbers: four digits, eight and eight, and the end of each line.
+const NUMBERS_LEN: usize = (4 + 1) + (8 + 1) + (8 + 1);
+
+// The length of the longest report: its numbers, and a line of four digits for each of 16,384 occurrences (finds) and as many frames.
+pub const LONGEST_REPORT: usize = NUMBERS_LEN + 5 * 16384 + 5 * 16384;
+
+// The length of the report of a job that is refused: FF, two digits and the line end.
+const REFUSED_LEN: usize = 2 + 2 + 1;
 
 // What writing a report answers.
 #[repr(C)]
@@ -17,14 +25,17 @@ pub struct ReportAnswer {
     pub bytes: u32,
 }
 
-// Writes a line of four digits for each number after the first entries, as many as `at` says.
-fn write_lines(numbers: &[u16], at: usize, out: &mut [u8])
+// Writes each number in four digits on a line of its own, the first line at index `at`, and returns the index after the last line.
+fn write_lines(numbers: &[u16], at: usize, out: &mut [u8]) -> usize
     requires { ⌜ at + 5 * length (now numbers) ≤ length (now out) ⌝ }
-    ensures { λ r. ⌜ now (out .exit) ≡ in-front (take at (now (out .entry)) ++ lines 4 (now (numbers .entry))) (now (out .entry)) ⌝ }
+    ensures { λ r. ⌜ r ≡ at + 5 * length (now (numbers .entry)) ⌝ }
+    ensures { λ r. ⌜ now (out .exit) ≡ from-entry at (lines 4 (now (numbers .entry))) (now (out .entry)) ⌝ }
 {
+    let mut next = at;
     for i in 0..numbers.len() {
-        lines::write_line(4, numbers[i] as u32, at + 5 * i, out);
+        next = lines::write_line(4, numbers[i] as u32, next, out);
     }
+    next
 }
 
 // The answer of a status and a report's length.
@@ -39,32 +50,30 @@ fn answer(status: u32, bytes: u32) -> ReportAnswer
 
 // Writes the report of a job that is refused (turned away) by a status.
 pub fn write_refused(status: u32, out: &mut [u8]) -> ReportAnswer
-    ensures { λ r. ⌜ Written (refused-report status) (now (out .entry)) (now (out .exit)) r ⌝ }
+    ensures { λ r. ⌜ Report-written (refused-report status) (now (out .entry)) (now (out .exit)) r ⌝ }
 {
-    if out.len() < 5 {
+    if out.len() < REFUSED_LEN {
         return answer(7, 0);
     }
-    lines::write_digits(2, 0xFF, 0, out);
-    lines::write_line(2, status, 2, out);
-    answer(0, 5)
+    let at = lines::write_digits(2, 0xFF, 0, out);
+    let bytes = lines::write_line(2, status, at, out);
+    answer(0, bytes as u32)
 }
 
-// Writes the report of a job that is taken: what it is converted to is this answer, with these occurrences (finds) and frames.
-// It is public for the crate that reports a job, whose text is no longer than the longest.
+// Writes the report of a job that is taken, from what it was converted to: the answer, the occurrences (finds) and the frames. It is public
+// for the crate that reports a job, whose text is no longer than the longest.
 pub fn write_done(converted: Answer, found: &[u16], frames: &[u16], out: &mut [u8]) -> ReportAnswer
     requires { ⌜ length (now found) ≤ 16384 ⌝ }
     requires { ⌜ length (now frames) ≤ 16384 ⌝ }
-    ensures { λ r. ⌜ Written (report-lines (converted .occurrences) (converted .comparisons) (converted .ones) (now (found .entry)) (now (frames .entry))) (now (out .entry)) (now (out .exit)) r ⌝ }
+    ensures { λ r. ⌜ Report-written (report-lines converted (now (found .entry)) (now (frames .entry))) (now (out .entry)) (now (out .exit)) r ⌝ }
 {
-    let frames_at = 23 + 5 * found.len();
-    let bytes = frames_at + 5 * frames.len();
-    if out.len() < bytes {
+    if out.len() < NUMBERS_LEN + 5 * found.len() + 5 * frames.len() {
         return answer(7, 0);
     }
-    lines::write_line(4, converted.occurrences, 0, out);
-    lines::write_line(8, converted.comparisons, 5, out);
-    lines::write_line(8, converted.ones, 14, out);
-    write_lines(found, 23, out);
-    write_lines(frames, frames_at, out);
+    let at = lines::write_line(4, converted.occurrences, 0, out);
+    let at = lines::write_line(8, converted.comparisons, at, out);
+    let at = lines::write_line(8, converted.ones, at, out);
+    let at = write_lines(found, at, out);
+    let bytes = write_lines(frames, at, out);
     answer(0, bytes as u32)
 }

@@ -1,6 +1,6 @@
--- What a first line, a line of two digits and a run of such lines are made of, what the cases of `FirstLine` say, and the status by a first line's fields.
+-- What a first line, a line of two digits and several such lines consist of, what the cases of `FirstLine` say, and the status by fields.
 -- By unfolding the definitions at their digits, and by induction on the number of lines.
-use mathlib.Core.Bool.{Bool, true, false, _&&_, not, cond, and-assoc, and-true, and-false}
+use mathlib.Core.Bool.{Bool, true, false, _&&_, not, cond, and-eq-true-iff, and-assoc, and-true, and-false}
 use mathlib.Core.List.{List, [], _∷_, _++_}
 use mathlib.Core.Path.{_≡_, sym, ap, _∙_}
 use Prim.Native.Nat.{ℕ, zero, suc, _+_, _*_, _-_, _≤_, _<_}
@@ -11,7 +11,7 @@ use lib.Dec.{eqb}
 use lib.ListN.{length, getD}
 use Rattle.answers.specs.Refusals.{Refusal, refuse, first-of, job-refusals, buffer-refusal}
 use Rattle.hex.proofs.Pairs.{both-digits}
-use Rattle.hex.proofs.Parse.{told-good, told-bad, refused-bad, value-good, value-is}
+use Rattle.hex.proofs.Parse.{told-good, told-bad, refused-bad}
 use Rattle.hex.proofs.Table.{and-left, and-right}
 use Rattle.hex.specs.Hex.{is-digit, all-digits, number}
 use Rattle.hex.specs.Parsed.{Parsed-outcome}
@@ -34,17 +34,12 @@ pub first-line-pairs : (bs : List ℕ)
 unfolding good-line all-digits
 first-line-pairs bs = simp and-assoc
 
--- n is the last two pairs
-pub n-pairs : (bs : List ℕ) → n-in bs ≡ number 2 6 bs * 256 + number 2 8 bs
-unfolding n-in number
-n-pairs bs = omega arith
-
 -- the fields are read pair by pair
 pub fields-read : (bs : List ℕ) (e m q high low : ℕ) → e ≡ number 2 0 bs → m ≡ number 2 2 bs → q ≡ number 2 4 bs → high ≡ number 2 6 bs
     → low ≡ number 2 8 bs → _≡_ {A = Fields} (record { edition = e; m = m; q = q; n = high * 256 + low }) (fields-in bs)
-unfolding edition-in m-in q-in
+unfolding edition-in m-in q-in n-in number
 fields-read bs e m q high low pe pm pq ph pl =
-    let pn : high * 256 + low ≡ n-in bs = rw (ph, pl, n-pairs) in
+    let pn : high * 256 + low ≡ n-in bs = omega arith in
     λ i. record { edition = pe i; m = pm i; q = pq i; n = pn i }
 
 pub first-refused : (bs : List ℕ) → good-line 10 0 bs ≡ false → First-line-outcome bs Refused
@@ -65,25 +60,19 @@ bad-digits (suc (suc n)) (suc k) a bs h e =
     let there : a + suc k ≡ suc a + k = omega arith in
     rw (bad-digits (suc n) k (suc a) bs (omega arith) (rw there at e), and-false)
 
--- a pair of the first line as it was read: refused, or good with its number
-module _ (bs : List ℕ) (at : ℕ) (r : Parsed) (o : Parsed-outcome (all-digits 2 at bs) (number 2 at bs) r) where
-  pub pair-refused : at ≤ 8 → r ≡ parsed.Refused → First-line-outcome bs Refused
-  unfolding good-line
-  pair-refused h e = first-refused bs (rw (bad-digits 10 at 0 bs (omega arith) (rw zero-add (refused-bad _ _ r o e))))
+-- a pair of the first line that was refused
+pub pair-refused : (bs : List ℕ) (at : ℕ) (r : Parsed) → Parsed-outcome (all-digits 2 at bs) (number 2 at bs) r
+    → at ≤ 8 → r ≡ parsed.Refused → First-line-outcome bs Refused
+unfolding good-line
+pair-refused bs at r o h e = first-refused bs (rw (bad-digits 10 at 0 bs (omega arith) (rw zero-add (refused-bad _ _ r o e))))
 
-  pub pair-read : (v : ℕ) → r ≡ parsed.Value v → (all-digits 2 at bs ≡ true) × (v ≡ number 2 at bs)
-  pair-read v e = (value-good _ _ r o v e, value-is _ _ r o v e)
-
--- what a case that was come to by a match says
+-- what a case says once a match has told it
 module _ (bs : List ℕ) (r : FirstLine) (o : First-line-outcome bs r) where
-  pub good-is : (fields : Fields) → r ≡ Good fields → good-line 10 0 bs ≡ true
-  unfolding first-line-status
-  good-is fields e = told-good (good-line 10 0 bs) (sym (ap first-line-status e) ∙ o .status)
-
-  pub good-fields : (fields : Fields) → r ≡ Good fields → fields ≡ fields-in bs
-  unfolding first-line-fields
-  good-fields fields e =
-      sym (ap first-line-fields e) ∙ o .fields ∙ ap (λ (b : Bool). cond b (fields-in bs) no-fields) (good-is fields e)
+  pub good-read : (fields : Fields) → r ≡ Good fields → (good-line 10 0 bs ≡ true) × (fields ≡ fields-in bs)
+  unfolding first-line-status first-line-fields
+  good-read fields e =
+      let good = told-good (good-line 10 0 bs) (sym (ap first-line-status e) ∙ o .status) in
+      (good, sym (ap first-line-fields e) ∙ o .fields ∙ ap (λ (b : Bool). cond b (fields-in bs) no-fields) good)
 
   pub refused-is : r ≡ Refused → good-line 10 0 bs ≡ false
   unfolding first-line-status
@@ -95,68 +84,54 @@ pub line-bytes : (a : ℕ) (bs : List ℕ)
 unfolding good-line
 line-bytes a bs = rw both-digits
 
--- the lines from the i-th of n on: one line, and the lines from the next on
-pub lines-from : (n i a : ℕ) (bs : List ℕ) → i < n
-    → good-lines (n - i) (a + 3 * i) bs ≡ good-line 2 (a + 3 * i) bs && good-lines (n - (i + 1)) (a + 3 * (i + 1)) bs
-unfolding good-lines
-lines-from n i a bs h =
-    let left : n - i ≡ suc (n - (i + 1)) = omega arith in
-    let next : a + 3 * (i + 1) ≡ a + 3 * i + 3 = omega arith in
-    rw (left, next)
+-- from the i-th of n lines on: that line, and those from the next on
+module _ (n i a : ℕ) (bs : List ℕ) (h : i < n) where
+  left : n - i ≡ suc (n - (i + 1))
+  left = omega (arith, h)
 
--- each of n good lines is good
-pub line-of : (n a : ℕ) (bs : List ℕ) → good-lines n a bs ≡ true → (i : ℕ) → i < n → good-line 2 (a + 3 * i) bs ≡ true
-unfolding good-lines
-line-of zero a bs e i h = absurd (omega arith)
-line-of (suc n) a bs e zero h =
+  next : a + 3 * (i + 1) ≡ a + 3 * i + 3
+  next = omega arith
+
+  pub lines-from : good-lines (n - i) (a + 3 * i) bs ≡ good-line 2 (a + 3 * i) bs && good-lines (n - (i + 1)) (a + 3 * (i + 1)) bs
+  unfolding good-lines
+  lines-from = rw (left, next)
+
+  pub bytes-from : bytes-in (n - i) (a + 3 * i) bs ≡ number 2 (a + 3 * i) bs ∷ bytes-in (n - (i + 1)) (a + 3 * (i + 1)) bs
+  unfolding bytes-in
+  bytes-from = rw (left, next)
+
+-- each of n good lines has its two digits
+pub line-digits : (n a : ℕ) (bs : List ℕ) → good-lines n a bs ≡ true → (i : ℕ) → i < n → all-digits 2 (a + 3 * i) bs ≡ true
+unfolding good-lines good-line
+line-digits zero a bs e i h = absurd (omega arith)
+line-digits (suc n) a bs e zero h =
     let here : a + 3 * 0 ≡ a = omega arith in
-    rw here (and-left (good-line 2 a bs) _ e)
-line-of (suc n) a bs e (suc i) h =
+    rw here (and-left (all-digits 2 a bs) _ (and-left (good-line 2 a bs) _ e))
+line-digits (suc n) a bs e (suc i) h =
     let there : a + 3 * suc i ≡ a + 3 + 3 * i = omega arith in
-    rw there (line-of n (a + 3) bs (and-right (good-line 2 a bs) _ e) i (omega arith))
-
--- a good line has its two digits
-pub line-digits : (a : ℕ) (bs : List ℕ) → good-line 2 a bs ≡ true → all-digits 2 a bs ≡ true
-unfolding good-line
-line-digits a bs e = and-left (all-digits 2 a bs) _ e
+    rw there (line-digits n (a + 3) bs (and-right (good-line 2 a bs) _ e) i (omega arith))
 
 -- good lines: so many, and so many more
-module _ (m n a : ℕ) (bs : List ℕ) (good : good-lines (m + n) a bs ≡ true) where
-  both-good : good-lines m a bs && good-lines n (a + 3 * m) bs ≡ true
-  both-good = rw (good-lines-split m n a bs) at good
-
-  pub lines-left : good-lines m a bs ≡ true
-  lines-left = and-left _ _ both-good
-
-  pub lines-right : good-lines n (a + 3 * m) bs ≡ true
-  lines-right = and-right (good-lines m a bs) _ both-good
-
--- the bytes of one line more
-pub bytes-more : (i a : ℕ) (bs : List ℕ) → bytes-in (suc i) a bs ≡ bytes-in i a bs ++ (number 2 (a + 3 * i) bs ∷ [])
-unfolding bytes-in
-bytes-more zero a bs =
-    let here : a + 3 * 0 ≡ a = omega arith in
-    rw here
-bytes-more (suc i) a bs =
-    let there : a + 3 * suc i ≡ a + 3 + 3 * i = omega arith in
-    rw there (ap (λ (l : List ℕ). number 2 a bs ∷ l) (bytes-more i (a + 3) bs))
+pub lines-both :
+    (m n a : ℕ) (bs : List ℕ) → good-lines (m + n) a bs ≡ true → (good-lines m a bs ≡ true) × (good-lines n (a + 3 * m) bs ≡ true)
+lines-both m n a bs good = and-eq-true-iff (good-lines m a bs) _ .0 (rw (good-lines-split m n a bs) at good)
 
 -- past the first line, the status of reading goes by its fields
-module _ (bs : List ℕ) (f : Fields) (pattern text : ℕ) where
+module _ (bs : List ℕ) (f : Fields) (pattern-len text-len : ℕ) where
   -- past 4, 5 and 6: 1, then 2 in the rest, then 7
   abbrev pub size-refusals : List Refusal
   size-refusals =
       refuse 1 (not (eqb (length bs) (file-length (f .m) (f .n))))
       ∷ refuse 2 (not (good-lines (f .m + f .n) 11 bs))
-      ∷ buffer-refusal pattern (f .m)
-      ∷ buffer-refusal text (f .n)
+      ∷ buffer-refusal pattern-len (f .m)
+      ∷ buffer-refusal text-len (f .n)
       ∷ []
 
   module _ (r : First-line-read bs f) where
-    pub other-edition : (f .edition ≡ 1 → ⊥) → read-status bs pattern text ≡ 3
+    pub other-edition : (f .edition ≡ 1 → ⊥) → read-status bs pattern-len text-len ≡ 3
     unfolding read-status file-refusals first-of
     other-edition h = rw (le-ltb (length bs) 11 (r .there), r .good, ne-eqb (edition-in bs) 1 (rw (r .given) at h))
 
-    pub edition-read : f .edition ≡ 1 → read-status bs pattern text ≡ first-of (job-refusals (f .m) (f .q) (f .n) ++ size-refusals)
+    pub edition-read : f .edition ≡ 1 → read-status bs pattern-len text-len ≡ first-of (job-refusals (f .m) (f .q) (f .n) ++ size-refusals)
     unfolding read-status file-refusals first-of job-refusals
     edition-read e = rw (r .given, le-ltb (length bs) 11 (r .there), r .good, eq-eqb (edition-in bs) 1 (rw (r .given) at e))

@@ -15,7 +15,7 @@ ghost use Rattle.job.specs.Read.{read-status, Read-outcome};
 ghost use Rattle.lines.specs.Lines.{line-end};
 ghost use Rattle.reader.specs.FirstLine.{First-line-outcome, First-line-read};
 
-// What a job's first line gives.
+// What a job's first line gives: the edition, m, q and n.
 pub struct Fields {
     pub edition: usize,
     pub m: usize,
@@ -62,7 +62,7 @@ fn first_line(file: &[u8]) -> FirstLine
     let Parsed::Value(m) = pair_at(file, 2) else {
         return FirstLine::Refused;
     };
-    let Parsed::Value(q) = pair_at(file, 4) else {
+    let Parsed::Value(hold_offset) = pair_at(file, 4) else {
         return FirstLine::Refused;
     };
     let Parsed::Value(high) = pair_at(file, 6) else {
@@ -77,7 +77,7 @@ fn first_line(file: &[u8]) -> FirstLine
     FirstLine::Good(Fields {
         edition: edition as usize,
         m: m as usize,
-        q: q as usize,
+        q: hold_offset as usize,
         n: high as usize * 256 + low as usize,
     })
 }
@@ -92,7 +92,8 @@ fn is_line(high: u8, low: u8, end: u8) -> bool
     }
 }
 
-// Whether so many lines of two digits stand in the file, from a place on: all are counted, with no way out of the loop before its end.
+// Whether so many lines of two digits stand in the file from a place on. The good ones are counted, so that the loop has no way out before
+// its end.
 fn are_lines(file: &[u8], count: usize, from: usize) -> bool
     requires { ⌜ from + 3 * count ≤ length (now file) ⌝ }
     requires { ⌜ count < 65536 ⌝ }
@@ -109,9 +110,9 @@ fn are_lines(file: &[u8], count: usize, from: usize) -> bool
 }
 
 // The status of reading a file of these fields into buffers of these lengths.
-fn status_of(file: &[u8], fields: Fields, pattern: usize, text: usize) -> u32
+fn status_of(file: &[u8], fields: Fields, pattern_len: usize, text_len: usize) -> u32
     requires { ⌜ First-line-read (now file) fields ⌝ }
-    ensures { λ r. ⌜ r ≡ read-status (now (file .entry)) pattern text ⌝ }
+    ensures { λ r. ⌜ r ≡ read-status (now (file .entry)) «pattern_len» «text_len» ⌝ }
 {
     let m = fields.m;
     let n = fields.n;
@@ -128,25 +129,13 @@ fn status_of(file: &[u8], fields: Fields, pattern: usize, text: usize) -> u32
     if !are_lines(file, m + n, 11) {
         return 2;
     }
-    if pattern < m || text < n {
+    if pattern_len < m || text_len < n {
         return 7;
     }
     0
 }
 
-// The value of a digit.
-fn value_of(digit: u8) -> u8
-    requires { ⌜ is-digit digit ≡ true ⌝ }
-    ensures { λ r. ⌜ r ≡ digit-value digit ⌝ }
-{
-    if digit <= 0x39 {
-        digit - 0x30
-    } else {
-        digit - 0x37
-    }
-}
-
-// The bytes of the lines from a place of the file on, as many as the buffer holds.
+// Reads the bytes of the lines from a place of the file on, until the buffer is full.
 fn read_lines(file: &[u8], from: usize, out: &mut [u8])
     requires { ⌜ from + 3 * length (now out) ≤ length (now file) ⌝ }
     requires { ⌜ good-lines (length (now out)) from (now file) ≡ true ⌝ }
@@ -154,7 +143,7 @@ fn read_lines(file: &[u8], from: usize, out: &mut [u8])
 {
     for i in 0..out.len() {
         let at = from + 3 * i;
-        out[i] = value_of(file[at]) * 16 + value_of(file[at + 1]);
+        out[i] = hex::value_of(file[at]) * 16 + hex::value_of(file[at + 1]);
     }
 }
 

@@ -12,10 +12,10 @@ use lib.Seq.{take-all, getD-take, length-take-le}
 use Rattle.answers.proofs.Refusals.{same-past, limits-hold}
 use Rattle.answers.specs.Refusals.{Refusal, refuse, first-of, job-refusals}
 use Rattle.hex.specs.Hex.{all-digits, number}
-use Rattle.job.proofs.Taken.{taken}
+use Rattle.job.proofs.Taken.{file-taken}
 use Rattle.job.specs.Job.{edition-in, m-in, q-in, n-in, good-line, good-lines, file-length, file-refusals, file-status}
 use Rattle.report.proofs.Printed.{printed-refused}
-use Rattle.report.specs.Promises.{longest-file, Cut-right}
+use Rattle.report.specs.Promises.{longest-file, Cut-right, input-room, Input-right}
 use Rattle.printer.specs.Printed.{refused-report}
 use Rattle.report.specs.Report.{seek-report}
 
@@ -64,7 +64,7 @@ long-status bs h =
 
 -- so it prints the refusal
 long-refused : (bs : List ℕ) → longest-file < length bs → file-status bs ≡ 0 → ⊥
-long-refused bs h e = let t = taken bs e in omega arith
+long-refused bs h e = let t = file-taken bs e in omega arith
 
 long-report : (bs : List ℕ) → longest-file < length bs → seek-report bs ≡ refused-report (first-of (first-line-refusals bs ++ (refuse 1 true ∷ [])))
 long-report bs h = printed-refused bs (long-refused bs h) ∙ ap refused-report (long-status bs h)
@@ -79,3 +79,7 @@ cut-right n bs h = go (leb (length bs) n) refl
         let longer = leb-false (length bs) n e in
         let l = length-take-le n bs (omega arith) in
         rw (long-report (take n bs) (omega arith), long-report bs (omega arith), first-line-take n bs (omega arith))
+
+pub input-right : Input-right
+unfolding Input-right Cut-right
+input-right file = cut-right input-room file (omega arith)

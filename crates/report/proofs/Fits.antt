@@ -10,12 +10,11 @@ use lib.Dec.{eqb}
 use lib.ListN.{length}
 use Rattle.frames.proofs.Holds.{length-frames, occurrences-few}
 use Rattle.frames.specs.Frames.{frames}
-use Rattle.ones.specs.Ones.{ones-of}
+use Rattle.converter.specs.Convert.{convert-done}
 use Rattle.job.proofs.Lengths.{length-pattern, length-text}
-use Rattle.job.proofs.Taken.{taken}
+use Rattle.job.proofs.Taken.{file-taken}
 use Rattle.job.specs.Job.{file-status, q-in, pattern-in, text-in}
 use Rattle.steps.specs.Occurrences.{occurrences}
-use Rattle.steps.specs.Steps.{comparisons}
 use Rattle.printer.proofs.Lines.{length-report-lines, length-refused}
 use Rattle.report.proofs.Printed.{printed-refused, printed-done}
 use Rattle.report.specs.Promises.{longest-report, Report-fits}
@@ -26,7 +25,7 @@ unfolding done-report
 done-fits q w t h l =
     omega (
       arith,
-      length-report-lines (length (occurrences w t)) (length (comparisons w t)) (ones-of t) (occurrences w t) (frames q w t),
+      length-report-lines (convert-done w t) (occurrences w t) (frames q w t),
       occurrences-few w t h,
       length-frames q w t,
     )
@@ -38,7 +37,7 @@ report-fits file = go (eqb (file-status file) 0) refl
     go : (z : Bool) → eqb (file-status file) 0 ≡ z → length (seek-report file) ≤ longest-report
     go true e =
         let done = eqb-true _ _ e in
-        let limits = taken file done .limits in
+        let limits = file-taken file done .limits in
         let w = length-pattern file in
         let t = length-text file in
         rw (printed-done file done) (done-fits (q-in file) (pattern-in file) (text-in file) (omega arith) (omega arith))

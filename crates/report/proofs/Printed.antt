@@ -1,21 +1,17 @@
 -- What is printed for a file, by its status: the refusal, or what the job gives.
 -- The two cases of the definition.
 use mathlib.Core.List.{List}
-use mathlib.Core.Path.{_≡_, refl}
-use Prim.Native.Nat.{ℕ, zero, suc}
+use mathlib.Core.Path.{_≡_, sym}
+use Prim.Native.Nat.{ℕ}
+use Rattle.answers.proofs.Answered.{refused-only}
 use Rattle.answers.specs.Answers.{if-done}
 use Rattle.job.specs.Job.{file-status, q-in, pattern-in, text-in}
 use Rattle.printer.specs.Printed.{refused-report}
 use Rattle.report.specs.Report.{done-report, seek-report}
 
-refused-only : {A : Type 0} (s : ℕ) (d r : A) → (s ≡ 0 → ⊥) → if-done s d r ≡ r
-unfolding if-done
-refused-only zero d r h = absurd (h refl)
-refused-only (suc s) d r h = refl
-
 pub printed-refused : (file : List ℕ) → (file-status file ≡ 0 → ⊥) → seek-report file ≡ refused-report (file-status file)
 unfolding seek-report
-printed-refused file h = refused-only (file-status file) _ _ h
+printed-refused file h = sym (refused-only (file-status file) _ _ h)
 
 pub printed-done : (file : List ℕ) → file-status file ≡ 0 → seek-report file ≡ done-report (q-in file) (pattern-in file) (text-in file)
 unfolding seek-report if-done

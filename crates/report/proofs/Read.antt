@@ -1,19 +1,34 @@
 -- What reading into buffers of the largest sizes answers and leaves: the file's status, and the job of a file that is taken.
--- By the outcome of a reading that is done.
-use mathlib.Core.List.{List}
+-- Conditions past the file's own count only where none of those holds; then by the outcome of a reading that is done.
+use mathlib.Core.List.{List, [], _∷_, append-nil}
 use mathlib.Core.Path.{_≡_, sym, _∙_}
-use Prim.Native.Nat.{ℕ}
+use Prim.Native.Nat.{ℕ, _≤_}
 use native.Mathlib.Omega.{arith}
+use borrow.Author.Tests.{le-ltb}
 use lib.ListN.{length}
-use Rattle.answers.proofs.Refusals.{Within-limits}
+use Rattle.answers.proofs.Refusals.{None-holds, none-done, same-past, Within-limits}
+use Rattle.answers.specs.Refusals.{Refusal, first-of, longest-pattern, longest-text, buffer-refusal}
 use Rattle.job.proofs.CallsRoundTrip.{read-status-of, read-back}
 use Rattle.job.proofs.Lengths.{length-pattern, length-text}
-use Rattle.job.proofs.Taken.{taken}
-use Rattle.job.specs.Job.{file-status, q-in, pattern-in, text-in}
+use Rattle.job.proofs.Taken.{file-taken}
+use Rattle.job.specs.Job.{file-refusals, file-status, m-in, q-in, n-in, pattern-in, text-in}
 use Rattle.job.specs.Promises.{Read-back}
-use Rattle.job.specs.Read.{Read-outcome}
+use Rattle.job.specs.Read.{read-status, Read-outcome}
 use Rattle.job.specs.declared.ReadAnswer.{ReadAnswer}
-use Rattle.report.proofs.Statuses.{read-status-is}
+
+-- reading into buffers of the largest sizes is refused just as the file is
+read-status-is : (file : List ℕ) (p t : ℕ) → longest-pattern ≤ p → longest-text ≤ t → read-status file p t ≡ file-status file
+unfolding read-status file-status first-of
+read-status-is file p t hp ht =
+    same-past (file-refusals file) rooms [] enough ∙ rw append-nil
+  where
+    rooms : List Refusal
+    rooms = buffer-refusal p (m-in file) ∷ buffer-refusal t (n-in file) ∷ []
+
+    enough : None-holds (file-refusals file) → first-of rooms ≡ 0
+    enough none =
+        let limits = file-taken file (none-done (file-refusals file) none) .limits in
+        none-done rooms (le-ltb p (m-in file) (omega arith), (le-ltb t (n-in file) (omega arith), tt))
 
 -- a file is taken: the limits that its job keeps, and the job in the answer and the buffers
 pub record Job-read (file p' t' : List ℕ) (r : ReadAnswer) : Type 0 where
@@ -28,7 +43,7 @@ module _ {file p p' t t' : List ℕ} {r : ReadAnswer} (o : Read-outcome file p p
   pub job-read : r .answer .status ≡ 0 → Job-read file p' t' r
   job-read e =
       let done = sym status-read ∙ e in
-      let limits = taken file done .limits in
+      let limits = file-taken file done .limits in
       record {
         file-taken = done;
         limits = rw (length-pattern file, length-text file) limits;

@@ -1,30 +1,35 @@
 // What SEEK prints: from the bytes of a job file to the bytes of its report.
 ghost use Prim.Native.Nat.{_≤_, _<_};
 ghost use lib.ListN.{length};
-ghost use Rattle.printer.specs.Printed.{Written};
+ghost use Rattle.printer.specs.Printed.{Report-written};
 ghost use Rattle.report.specs.Report.{done-report, Report-outcome};
 use printer::ReportAnswer;
 
 // Converts a job that is taken, and writes its report.
-fn report_taken(hold: u32, pattern: &[u8], text: &[u8], out: &mut [u8]) -> ReportAnswer
-    requires { ⌜ hold < length (now pattern) ⌝ }
+fn report_taken(hold_offset: u32, pattern: &[u8], text: &[u8], out: &mut [u8]) -> ReportAnswer
+    requires { ⌜ «hold_offset» < length (now pattern) ⌝ }
     requires { ⌜ length (now pattern) ≤ 128 ⌝ }
     requires { ⌜ length (now text) ≤ 16384 ⌝ }
-    ensures { λ r. ⌜ Written (done-report hold (now (pattern .entry)) (now (text .entry))) (now (out .entry)) (now (out .exit)) r ⌝ }
+    ensures { λ r. ⌜ Report-written (done-report «hold_offset» (now (pattern .entry)) (now (text .entry))) (now (out .entry)) (now (out .exit)) r ⌝ }
 {
     let mut order: [i16; 129] = [0; 129];
     let mut delta2: [u16; 129] = [0; 129];
     let mut delta1: [u16; 32768] = [0; 32768];
     let mut found: [u16; 16384] = [0; 16384];
     let mut frames: [u16; 16384] = [0; 16384];
-    let converted = converter::convert(
-        hold,
+    let searched = matcher::search_within(
         pattern,
         text,
         &mut order,
         &mut delta2,
         &mut delta1,
         &mut found,
+    );
+    let converted = converter::write_frames(
+        searched,
+        hold_offset as usize,
+        text,
+        &found,
         &mut frames,
     );
     let h = converted.occurrences as usize;

@@ -11,6 +11,7 @@ ghost use Rattle.job.specs.Write.{Write-outcome};
 ghost use Rattle.matcher.specs.Search.{Search-outcome};
 ghost use Rattle.ones.specs.Ones.{count-answer};
 ghost use Rattle.report.specs.Report.{Report-outcome};
+ghost use Rattle.tables.specs.Buffers.{tables};
 ghost use Rattle.tables.specs.Prepare.{Prepare-outcome};
 
 // Reads a job file into the caller's buffers for pattern (motif) and text (chain).
@@ -23,10 +24,15 @@ pub extern "C" fn read_job(file: &[u8], pattern: &mut [u8], text: &mut [u8]) -> 
 
 // Writes the job file of a hold offset (hold place), a pattern (motif) and a text (chain).
 #[no_mangle]
-pub extern "C" fn write_job(hold: u32, pattern: &[u8], text: &[u8], file: &mut [u8]) -> WriteAnswer
-    ensures { λ r. ⌜ Write-outcome hold (now (pattern .entry)) (now (text .entry)) (now (file .entry)) (now (file .exit)) r ⌝ }
+pub extern "C" fn write_job(
+    hold_offset: u32,
+    pattern: &[u8],
+    text: &[u8],
+    file: &mut [u8],
+) -> WriteAnswer
+    ensures { λ r. ⌜ Write-outcome «hold_offset» (now (pattern .entry)) (now (text .entry)) (now (file .entry)) (now (file .exit)) r ⌝ }
 {
-    writer::write_job(hold, pattern, text, file)
+    writer::write_job(hold_offset, pattern, text, file)
 }
 
 // Prepares a pattern (motif): works its order, Δ2 and Δ1 out into the caller's buffers.
@@ -37,7 +43,9 @@ pub extern "C" fn prepare(
     delta2: &mut [u16],
     delta1: &mut [u16],
 ) -> Answer
-    ensures { λ r. ⌜ Prepare-outcome (now (pattern .entry)) (now (order .entry)) (now (order .exit)) (now (delta2 .entry)) (now (delta2 .exit)) (now (delta1 .entry)) (now (delta1 .exit)) r ⌝ }
+    ensures { λ r. ⌜ Prepare-outcome (now (pattern .entry))
+        (tables (now (order .entry)) (now (delta2 .entry)) (now (delta1 .entry)))
+        (tables (now (order .exit)) (now (delta2 .exit)) (now (delta1 .exit))) r ⌝ }
 {
     prepare::prepare(pattern, order, delta2, delta1)
 }
@@ -52,7 +60,9 @@ pub extern "C" fn search(
     delta1: &mut [u16],
     found: &mut [u16],
 ) -> Answer
-    ensures { λ r. ⌜ Search-outcome (now (pattern .entry)) (now (text .entry)) (now (order .entry)) (now (order .exit)) (now (delta2 .entry)) (now (delta2 .exit)) (now (delta1 .entry)) (now (delta1 .exit)) (now (found .entry)) (now (found .exit)) r ⌝ }
+    ensures { λ r. ⌜ Search-outcome (now (pattern .entry)) (now (text .entry))
+        (tables (now (order .entry)) (now (delta2 .entry)) (now (delta1 .entry)))
+        (tables (now (order .exit)) (now (delta2 .exit)) (now (delta1 .exit))) (now (found .entry)) (now (found .exit)) r ⌝ }
 {
     matcher::search(pattern, text, order, delta2, delta1, found)
 }
@@ -60,7 +70,7 @@ pub extern "C" fn search(
 // Converts a text (chain) to frames, by a pattern (motif) and a hold offset (hold place).
 #[no_mangle]
 pub extern "C" fn convert(
-    hold: u32,
+    hold_offset: u32,
     pattern: &[u8],
     text: &[u8],
     order: &mut [i16],
@@ -69,9 +79,21 @@ pub extern "C" fn convert(
     found: &mut [u16],
     frames: &mut [u16],
 ) -> Answer
-    ensures { λ r. ⌜ Convert-outcome hold (now (pattern .entry)) (now (text .entry)) (now (order .entry)) (now (order .exit)) (now (delta2 .entry)) (now (delta2 .exit)) (now (delta1 .entry)) (now (delta1 .exit)) (now (found .entry)) (now (found .exit)) (now (frames .entry)) (now (frames .exit)) r ⌝ }
+    ensures { λ r. ⌜ Convert-outcome «hold_offset» (now (pattern .entry)) (now (text .entry))
+        (tables (now (order .entry)) (now (delta2 .entry)) (now (delta1 .entry)))
+        (tables (now (order .exit)) (now (delta2 .exit)) (now (delta1 .exit)))
+        (now (found .entry)) (now (found .exit)) (now (frames .entry)) (now (frames .exit)) r ⌝ }
 {
-    converter::convert(hold, pattern, text, order, delta2, delta1, found, frames)
+    converter::convert(
+        hold_offset,
+        pattern,
+        text,
+        order,
+        delta2,
+        delta1,
+        found,
+        frames,
+    )
 }
 
 // Counts the ones of a text (the holes of a chain).

@@ -2,12 +2,17 @@
 use libc::STDERR_FILENO;
 use libc::STDIN_FILENO;
 use libc::STDOUT_FILENO;
+use printer::LONGEST_REPORT;
 ghost use mathlib.Core.Path.{_≡_};
-ghost use Prim.Native.Nat.{_≤_, _<_};
+ghost use mathlib.Core.List.{List};
+ghost use Prim.Native.Nat.{ℕ, _≤_};
 ghost use lib.ListN.{length, take};
 ghost use Rattle.io.specs.Counts.{Counts};
-ghost use Rattle.report.specs.Promises.{longest-file, longest-report};
+ghost use Rattle.report.specs.Promises.{input-room, Read-from, longest-report};
 ghost use Rattle.report.specs.Report.{seek-report};
+
+// One byte more than the longest job file has, so that a longer file is told from it.
+const INPUT_ROOM: usize = 49548;
 
 // What came of reading the input.
 struct Input {
@@ -17,10 +22,8 @@ struct Input {
     failed: bool,
 }
 
-// Reads standard input to its end, or until the buffer is full. A file that does not fit is refused as the whole of it would be (`Cut-right`
-// of crates/report/specs/Promises.antt), since the buffer has more entries than the longest job has bytes.
+// Reads standard input to its end, or until the buffer is full.
 fn read_input(buf: &mut [u8]) -> Input
-    requires { ⌜ longest-file < length (now buf) ⌝ }
     ensures { λ r. ⌜ Counts (r .bytes) (now (buf .exit)) ⌝ }
 {
     let mut bytes = 0;
@@ -41,25 +44,28 @@ fn read_input(buf: &mut [u8]) -> Input
     }
 }
 
-// The report of a job file, in front of the buffer: how many bytes it has.
-fn report_of(file: &[u8], out: &mut [u8]) -> usize
+// Writes the report of standard input to the front of `out` and returns its length. The first `bytes` entries of the buffer `read` came from
+// standard input. Input that is longer than the buffer is longer than every job, and what was read of it is refused by the number that
+// the whole gives.
+fn report_of(read: &[u8], bytes: usize, out: &mut [u8]) -> usize
+    requires { ⌜ length (now read) ≡ input-room ⌝ }
+    requires { ⌜ bytes ≤ length (now read) ⌝ }
     requires { ⌜ longest-report ≤ length (now out) ⌝ }
     ensures { λ r. ⌜ Counts r (now (out .exit)) ⌝ }
-    ensures { λ r. ⌜ take r (now (out .exit)) ≡ seek-report (now (file .entry)) ⌝ }
+    ensures { λ r. ⌜ ((file : List ℕ) → Read-from (now (read .entry)) bytes file → take r (now (out .exit)) ≡ seek-report file) ⌝ }
 {
-    report::seek_report(file, out).bytes as usize
+    report::seek_report(&read[..bytes], out).bytes as usize
 }
 
 fn main() {
-    let mut file: [u8; 49548] = [0; 49548];
-    let input = read_input(&mut file);
+    let mut read: [u8; INPUT_ROOM] = [0; INPUT_ROOM];
+    let input = read_input(&mut read);
     if input.failed {
         io::write_all(STDERR_FILENO, b"SEEK: standard input could not be read\n");
         return;
     }
-    let n = input.bytes;
-    let mut out: [u8; 163863] = [0; 163863];
-    let bytes = report_of(&file[..n], &mut out);
+    let mut out: [u8; LONGEST_REPORT] = [0; LONGEST_REPORT];
+    let bytes = report_of(&read, input.bytes, &mut out);
     if !io::write_all(STDOUT_FILENO, &out[..bytes]) {
         io::write_all(STDERR_FILENO, b"SEEK: the report could not be written\n");
     }

@@ -2,7 +2,7 @@
 -- An entry of the order is read as a signed number: it is a position, or -1 just after the last.
 use mathlib.Core.Bool.{true, false}
 use mathlib.Core.List.{List}
-use mathlib.Core.Logic.{_≢_, ⊎-elim}
+use mathlib.Core.Logic.{_≢_}
 use mathlib.Core.Path.{_≡_, refl, sym, _∙_, ap}
 use Prim.Native.Nat.{ℕ, zero, suc, _+_, _-_, _≤_, _<_}
 use native.Mathlib.Numerals.{add-one}
@@ -15,27 +15,29 @@ use lib.Signed.{ltZ}
 use mir.Syntax.{w16}
 use mir.Val.{toZ, ofZ}
 use mir.ValLaws.{toZ-ofZ}
-use Rattle.tables.proofs.Cases.{clash, le-or-lt}
-use Rattle.tables.proofs.Order.{order-whole, stored-order-length}
-use Rattle.tables.specs.Promises.{Order-whole}
+use Rattle.tables.proofs.Cases.{clash}
+use Rattle.tables.proofs.Groups.{order-below, order-first, stored-order-entry, stored-order-end}
+use Rattle.tables.proofs.Order.{order-length, stored-order-length}
 use Rattle.tables.specs.Sets.{byte}
 use Rattle.tables.specs.Tables.{order, stored-order}
 use Rattle.steps.proofs.Steps.{Agreed, agreed-none, agreed-more, agreed-stop, agreed-all}
-use Rattle.steps.proofs.Stored.{begins-room, begins-entry, order-below, order-first, stored-order-entry, stored-order-end}
+use Rattle.steps.proofs.Stored.{begins-room, begins-entry}
+use Rattle.steps.proofs.Text.{shown-byte, span-length}
 use Rattle.steps.specs.Run.{Run-ready}
 use Rattle.steps.specs.Steps.{agreeing}
+use Rattle.steps.specs.Text.{shown, span}
 
 -- i comparisons of the alignment at b agreed, and where there was one the alignment is inside the text
 pub record Comparing (w t : List ℕ) (b i : ℕ) : Type 0 where
   pub within : i ≤ length w
-  pub agreed : Agreed (byte t) w b (order w) i
-  pub inside : 0 < i → b + length w ≤ length t
+  pub agreed : Agreed (shown t) w b (order w) i
+  pub inside : 0 < i → b + length w ≤ span w t
 
 -- the alignment at b is inside the text, and so many of its comparisons agree
 pub record Ended (w t : List ℕ) (b agreed : ℕ) : Type 0 where
   pub within : agreed ≤ length w
-  pub inside : b + length w ≤ length t
-  pub count : agreed ≡ agreeing (byte t) w b (order w)
+  pub inside : b + length w ≤ span w t
+  pub count : agreed ≡ agreeing (shown t) w b (order w)
 
 -- an entry of the order's buffer as it is read, a signed 16-bit number, and the position that it is where it is not negative
 abbrev pub entry : (row : List ℤ) (i : ℕ) → ℤ
@@ -56,21 +58,20 @@ window-byte t b h l = getD-take (length t - b) (drop b t) h 0 (omega (arith, win
 
 module _ {w t : List ℕ} {row : List ℤ} {delta2 delta1 found : List ℕ} (ready : Run-ready w t row delta2 delta1 found) where
   pub whole : length (order w) ≡ length w
-  unfolding Order-whole
-  whole = order-whole w (ready .nonempty) .0
+  whole = order-length w (ready .nonempty)
 
   pub comparing-first : (b : ℕ) → Comparing w t b 0
-  comparing-first b = record { within = omega arith; agreed = agreed-none (byte t) w b (order w); inside = λ l. absurd (omega arith) }
+  comparing-first b = record { within = omega arith; agreed = agreed-none (shown t) w b (order w); inside = λ l. absurd (omega arith) }
 
   module _ {b i : ℕ} (known : Comparing w t b i) where
     in-table : i < length (stored-order w)
     in-table = omega (arith, known .within, stored-order-length w (ready .nonempty))
 
     pub in-buffer : i < length row
-    in-buffer = omega (arith, in-table, begins-room (stored-order w) row (ready .order-ready))
+    in-buffer = omega (arith, in-table, begins-room (stored-order w) row (ready .tables .order-ready))
 
     stored : getD row i (pos 0) ≡ getD (stored-order w) i (pos 0)
-    stored = begins-entry (stored-order w) row (ready .order-ready) i (pos 0) in-table
+    stored = begins-entry (stored-order w) row (ready .tables .order-ready) i (pos 0) in-table
 
     at-position : i < length w → entry row i ≡ pos (getD (order w) i 0)
     at-position l =
@@ -85,22 +86,18 @@ module _ {w t : List ℕ} {row : List ℤ} {delta2 delta1 found : List ℕ} (rea
     -- the entry is negative: all agree
     pub comparing-all : ltZ (entry row i) (pos 0) ≡ true → Ended w t b i
     comparing-all e =
-        let past : length w ≤ i = ⊎-elim (λ u. u) not-past (le-or-lt (length w) i) in
+        let not-before : ¬ (i < length w) = λ l. clash _ e (rw (at-position l) (le-ltb (getD (order w) i 0) 0 (omega arith))) in
         let same : i ≡ length (order w) = omega (arith, whole, known .within) in
         record {
           within = known .within;
           inside = known .inside (omega (arith, ready .nonempty));
-          count = same ∙ sym (agreed-all (byte t) w b (order w) (rw same at (known .agreed)));
+          count = same ∙ sym (agreed-all (shown t) w b (order w) (rw same at (known .agreed)));
         }
-      where
-        not-past : i < length w → length w ≤ i
-        not-past l = absurd (clash _ e (rw (at-position l) (le-ltb (getD (order w) i 0) 0 (omega arith))))
 
     -- it is not: it is the position that is compared next
     module _ (more : ltZ (entry row i) (pos 0) ≡ false) where
       pub in-order : i < length w
-      in-order =
-          ⊎-elim (λ u. absurd (clash _ (rw (at-end (omega (arith, known .within)))) more)) (λ u. u) (le-or-lt (length w) i)
+      in-order = let not-end : ¬ (i ≡ length w) = λ e. clash _ (rw (at-end e)) more in omega (arith, known .within)
 
       in-row : i < length (order w)
       in-row = omega (arith, in-order, whole)
@@ -115,26 +112,28 @@ module _ {w t : List ℕ} {row : List ℤ} {delta2 delta1 found : List ℕ} (rea
       in-pattern = omega (arith, next, order-below w (ready .nonempty) i in-row)
 
       -- it is past the text's end just where the alignment is
-      pub past-end : length (window t b) ≤ position row i → length t < b + length w
-      past-end l = omega (arith, in-pattern, window-length t b)
+      pub past-end : length (window t b) ≤ position row i → span w t < b + length w
+      past-end l = omega (arith, in-pattern, window-length t b, span-length w t)
 
-      module _ (shown : position row i < length (window t b)) where
-        inside-text : b + length w ≤ length t
+      module _ (here : position row i < length (window t b)) where
+        inside-text : b + length w ≤ span w t
         inside-text = go i refl
           where
-            go : (j : ℕ) → i ≡ j → b + length w ≤ length t
-            go zero e = omega (arith, shown, window-length t b, next, order-first w, ap (λ (k : ℕ). getD (order w) k 0) e)
+            go : (j : ℕ) → i ≡ j → b + length w ≤ span w t
+            go zero e = omega (arith, here, window-length t b, span-length w t, next, order-first w, ap (λ (k : ℕ). getD (order w) k 0) e)
             go (suc j) e = known .inside (omega arith)
 
-        same-byte : byte (window t b) (position row i) ≡ byte t (b + getD (order w) i 0)
-        same-byte = window-byte t b (position row i) shown ∙ rw next
+        same-byte : byte (window t b) (position row i) ≡ shown t (b + getD (order w) i 0)
+        same-byte =
+            window-byte t b (position row i) here
+            ∙ rw next (sym (shown-byte t (b + getD (order w) i 0) (omega (arith, here, window-length t b, next))))
 
         pub comparing-more : byte w (position row i) ≡ byte (window t b) (position row i) → Comparing w t b (i + 1)
         comparing-more e =
             rw add-one
             (record {
               within = in-order;
-              agreed = agreed-more (byte t) w b (order w) i in-row (known .agreed) (rw (same-byte, next) at e);
+              agreed = agreed-more (shown t) w b (order w) i in-row (known .agreed) (rw (same-byte, next) at e);
               inside = λ u. inside-text;
             })
 
@@ -143,5 +142,5 @@ module _ {w t : List ℕ} {row : List ℤ} {delta2 delta1 found : List ℕ} (rea
             record {
               within = known .within;
               inside = inside-text;
-              count = sym (agreed-stop (byte t) w b (order w) i in-row (known .agreed) (rw (same-byte, next) at d));
+              count = sym (agreed-stop (shown t) w b (order w) i in-row (known .agreed) (rw (same-byte, next) at d));
             }

@@ -1,25 +1,28 @@
 -- The occurrences that the steps list are exactly those by meaning (`Occurrences-right`), over any text.
 -- A step tells whether its own position is one and passes over none; by induction on the fuel.
-use mathlib.Core.Bool.{Bool, true, false, cond, and-eq-true-iff}
+use mathlib.Core.Bool.{true, false, cond, and-eq-true-iff}
 use mathlib.Core.List.{List, [], _∷_}
 use mathlib.Core.Logic.{⊎-elim}
 use mathlib.Core.Path.{_≡_, refl, sym, _∙_, ap}
 use Prim.Native.Nat.{ℕ, zero, suc, _+_, _-_, _≤_, _<_}
-use native.Mathlib.Nat.{zero-add, add-zero, suc-add}
+use native.Mathlib.Nat.{eq-or-lt-of-le, zero-add, add-zero, suc-add}
 use native.Mathlib.Omega.{arith}
 use borrow.Author.Tests.{eqb-true, leb-true, le-leb, lt-leb, eq-eqb, ne-eqb}
 use lib.Dec.{leb, eqb}
 use lib.ListN.{length}
-use Rattle.tables.proofs.Cases.{le-or-lt}
+use Rattle.tables.proofs.Cases.{true-or-false, le-or-lt}
+use Rattle.tables.proofs.Groups.{order-below}
 use Rattle.tables.proofs.Least.{all-each, each-all}
+use Rattle.tables.proofs.Order.{order-stands}
 use Rattle.tables.specs.Sets.{byte}
 use Rattle.tables.specs.Tables.{order}
-use Rattle.steps.proofs.Outcome.{Outcome, differs, all-agree, step-outcome}
-use Rattle.steps.proofs.Shift.{Carried, Excluded, carried-on, carried-first, passed-over}
-use Rattle.steps.proofs.Steps.{Agrees, step-listed, run-over, run-step}
+use Rattle.steps.proofs.Shift.{Carried, Excluded, by-byte, carried-on, carried-first, passed-over}
+use Rattle.steps.proofs.Steps.{Agrees, agreeing-ends, step-listed, run-over, run-step}
+use Rattle.steps.proofs.Text.{span-few}
 use Rattle.steps.specs.Occurrences.{occurs, occurrences-from, all-occurrences, occurrences}
 use Rattle.steps.specs.Promises.{Occurrences-right}
 use Rattle.steps.specs.Steps.{agreeing, step, alignments-from, alignments, listed}
+use Rattle.steps.specs.Text.{shown, span}
 
 module _ (f : ℕ → ℕ) (N : ℕ) (w : List ℕ) where
   -- b is an occurrence just where it is inside the text and each pattern position agrees
@@ -40,38 +43,28 @@ module _ (f : ℕ → ℕ) (N : ℕ) (w : List ℕ) where
   occurs-inside b e = leb-true (b + length w) N (and-eq-true-iff (leb (b + length w) N) _ .0 e .0)
 
   occurs-not : (b : ℕ) → (((g : ℕ) → g < length w → Agrees f w b g) → ⊥) → occurs f N w b ≡ false
-  occurs-not b miss = go (occurs f N w b) refl
-    where
-      go : (z : Bool) → occurs f N w b ≡ z → occurs f N w b ≡ false
-      go true e = absurd (miss (occurs-agrees b e))
-      go false e = e
+  occurs-not b miss = ⊎-elim (λ e. absurd (miss (occurs-agrees b e))) (λ e. e) (true-or-false (occurs f N w b))
 
-  over-not : (b : ℕ) → N < b + length w → occurs f N w b ≡ false
-  unfolding occurs
-  over-not b l = rw (lt-leb _ _ l)
-
-  -- there are fewer occurrences than positions
-  few-from : (n b : ℕ) → 1 ≤ length w → length (occurrences-from n b f N w) ≤ N - b
+  -- there are no more occurrences than positions at which the pattern is shown whole
+  few-from : (n b : ℕ) → length (occurrences-from n b f N w) ≤ suc N - (b + length w)
   unfolding occurrences-from
-  few-from zero b l = omega arith
-  few-from (suc n) b l = go (occurs f N w b) refl (occurrences-from n (suc b) f N w) (few-from n (suc b) l)
-    where
-      go : (z : Bool) → occurs f N w b ≡ z → (later : List ℕ) → length later ≤ N - suc b → length (cond z (b ∷ later) later) ≤ N - b
-      go true e later h = omega (arith, occurs-inside b e)
-      go false e later h = omega arith
+  few-from zero b = omega arith
+  few-from (suc n) b =
+      let later = few-from n (suc b) in
+      ⊎-elim (λ e. rw e (omega (arith, occurs-inside b e))) (λ e. rw e (omega arith)) (true-or-false (occurs f N w b))
 
   -- an excluded position is no occurrence
-  excluded-not : (b j : ℕ) → b ≤ j → Excluded f w b (j - b) → occurs f N w j ≡ false
-  excluded-not b j i (g, l, (u, miss)) =
+  excluded-not : {s i : ℕ} (b j : ℕ) → b ≤ j → Excluded f w b s i (j - b) → occurs f N w j ≡ false
+  excluded-not b j v (by-byte g l seen (u, miss)) =
       let at = g - (j - b) in
       let there : j + at ≡ b + g = omega arith in
       occurs-not j (λ each. miss (each at (omega arith) ∙ ap f there))
 
   -- past the end there is none
   none-over : (n b : ℕ) → N < b + length w → occurrences-from n b f N w ≡ []
-  unfolding occurrences-from
+  unfolding occurrences-from occurs
   none-over zero b l = refl
-  none-over (suc n) b l = rw (over-not b l) (none-over n (suc b) (omega arith))
+  none-over (suc n) b l = rw (lt-leb (b + length w) N l) (none-over n (suc b) (omega arith))
 
   -- positions that are none are passed over
   skip :
@@ -96,12 +89,18 @@ module _ (f : ℕ → ℕ) (N : ℕ) (w : List ℕ) where
 
   module _ (nonempty : 1 ≤ length w) where
     -- a step finds all agreeing just where its position is an occurrence
-    step-tells : (b s : ℕ) → b + length w ≤ N → eqb (agreeing f w b (order w)) (length (order w)) ≡ occurs f N w b
-    step-tells b s l = go _ _ (step-outcome f w b s nonempty)
-      where
-        go : (agreed shift : ℕ) → Outcome f w b s agreed shift → eqb agreed (length (order w)) ≡ occurs f N w b
-        go a k (differs h i d few stop) = ne-eqb a (length (order w)) (λ e. omega arith) ∙ sym (occurs-not b (λ each. d (each h i)))
-        go a k (all-agree each e q) = eq-eqb _ _ e ∙ sym (agrees-occurs b l each)
+    step-tells : (b : ℕ) → b + length w ≤ N → eqb (agreeing f w b (order w)) (length (order w)) ≡ occurs f N w b
+    step-tells b l =
+        let i = agreeing f w b (order w) in
+        let ends = agreeing-ends f w b (order w) in
+        ⊎-elim
+        (λ e.
+        let each : (g : ℕ) → g < length w → Agrees f w b g = λ g u.
+        let (x, v, same) = order-stands w nonempty g u in
+        rw same at (ends .agree x (omega arith)) in
+        eq-eqb i _ e ∙ sym (agrees-occurs b l each))
+        (λ u. ne-eqb i _ (omega arith) ∙ sym (occurs-not b (λ all. ends .differ u (all _ (order-below w nonempty i u)))))
+        (eq-or-lt-of-le (ends .within))
 
     listed-right :
         (fuel b s n : ℕ) → N < b + fuel → N < b + n → Carried f w b s →
@@ -109,22 +108,19 @@ module _ (f : ℕ → ℕ) (N : ℕ) (w : List ℕ) where
     unfolding listed
     listed-right zero b s n l u known = rw (run-over f w b s zero N (omega arith)) (sym (none-over n b (omega arith)))
     listed-right (suc fuel) b s n l u known =
+        let k = step f w b s .shift in
         let kept = carried-on f w b s nonempty known in
-        ⊎-elim (inside kept (listed-right fuel (b + k) k (n - k) (omega arith) (omega arith) kept))
+        let later = listed-right fuel (b + k) k (n - k) (omega arith) (omega arith) kept in
+        let passed = passed-over f w b s nonempty known in
+        let none : (j : ℕ) → b < j → j < b + k → occurs f N w j ≡ false = λ j i h.
+        excluded-not b j (omega arith) (passed (j - b) (omega arith) (omega arith)) in
+        ⊎-elim
+        (λ v.
+        let whole : k + (n - k) ≡ n = omega arith in
+        let here = rw whole at (next k (n - k) b (kept .positive) none) in
+        rw (run-step f w b s fuel N v, step-listed f w b s, step-tells b v, later) (sym here))
         (λ v. rw (run-over f w b s (suc fuel) N v) (sym (none-over n b v)))
         (le-or-lt (b + length w) N)
-      where
-        k : ℕ
-        k = step f w b s .shift
-
-        inside :
-            Carried f w (b + k) k → listed (alignments-from fuel f N w (b + k) k) ≡ occurrences-from (n - k) (b + k) f N w →
-            b + length w ≤ N → listed (alignments-from (suc fuel) f N w b s) ≡ occurrences-from n b f N w
-        inside kept later v =
-            let whole : k + (n - k) ≡ n = omega arith in
-            let passed = passed-over f w b s nonempty known in
-            let here = next k (n - k) b (kept .positive) (λ j i h. excluded-not b j (omega arith) (passed (j - b) (omega arith) (omega arith))) in
-            rw (run-step f w b s fuel N v, step-listed f w b s, step-tells b s v, later) (sym (rw whole at here))
 
 pub occurrences-right : Occurrences-right
 unfolding Occurrences-right alignments all-occurrences
@@ -132,4 +128,4 @@ occurrences-right f N w h = listed-right f N w h (suc N) 0 (length w) (suc N) (o
 
 pub occurrences-few : (w t : List ℕ) → 1 ≤ length w → length (occurrences w t) ≤ length t
 unfolding occurrences all-occurrences
-occurrences-few w t h = omega (arith, few-from (byte t) (length t) w (suc (length t)) 0 h)
+occurrences-few w t h = omega (arith, few-from (shown t) (span w t) w (suc (span w t)) 0, span-few w t h)

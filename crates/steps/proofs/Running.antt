@@ -10,8 +10,7 @@ use lib.Dec.{eqb}
 use lib.IntN.{ℤ}
 use lib.ListN.{length, set}
 use Rattle.answers.specs.Buffers.{in-front}
-use Rattle.answers.proofs.Written.{Written, none-written, kept-length, one-more, all-written}
-use Rattle.tables.specs.Sets.{byte}
+use Rattle.answers.proofs.Partly.{put-front, Partly-written, none-written, kept-length, one-more, all-written}
 use Rattle.steps.proofs.Comparing.{Ended, whole}
 use Rattle.steps.proofs.Occurrences.{occurrences-right, occurrences-few}
 use Rattle.steps.proofs.Shift.{Carried, carried-first, carried-on}
@@ -20,20 +19,21 @@ use Rattle.steps.specs.Occurrences.{occurrences}
 use Rattle.steps.specs.Promises.{Occurrences-right}
 use Rattle.steps.specs.Run.{Run-ready}
 use Rattle.steps.specs.Steps.{Alignment, step, alignments-from, alignments, comparisons-of, listed, comparisons}
+use Rattle.steps.specs.Text.{shown, span}
 
 -- the alignments that are left, from b on with s the last shift
 abbrev pub left : (w t : List ℕ) (fuel b s : ℕ) → List Alignment
-left w t fuel b s = alignments-from fuel (byte t) (length t) w b s
+left w t fuel b s = alignments-from fuel (shown t) (span w t) w b s
 
 -- the comparisons counted and those that are left make all, and so do the occurrences listed and those that are left
 pub record Running (w t start found : List ℕ) (b s occurred compared : ℕ) : Type 0 where
   pub fuel : ℕ
-  pub enough : length t < b + fuel
-  pub inside : b ≤ length t
-  pub carried : Carried (byte t) w b s
+  pub enough : span w t < b + fuel
+  pub inside : b ≤ span w t
+  pub carried : Carried (shown t) w b s
   pub counted : compared + length (comparisons-of (left w t fuel b s)) ≡ length (comparisons w t)
   pub few : compared ≤ 128 * b
-  pub written : Written 0 start found (occurrences w t) (listed (left w t fuel b s)) occurred
+  pub written : Partly-written 0 start found (occurrences w t) (listed (left w t fuel b s)) occurred
   pub fewer : occurred ≤ b
 
 module _ {w t : List ℕ} {row : List ℤ} {delta2 delta1 start : List ℕ} (ready : Run-ready w t row delta2 delta1 start) where
@@ -44,13 +44,13 @@ module _ {w t : List ℕ} {row : List ℤ} {delta2 delta1 start : List ℕ} (rea
   unfolding Occurrences-right comparisons occurrences alignments
   running-first =
       record {
-        fuel = suc (length t);
+        fuel = suc (span w t);
         enough = omega arith;
         inside = omega arith;
-        carried = carried-first (byte t) w 0 (ready .nonempty);
+        carried = carried-first (shown t) w 0 (ready .nonempty);
         counted = omega arith;
         few = omega arith;
-        written = rw (occurrences-right (byte t) (length t) w (ready .nonempty)) (none-written 0 start (occurrences w t) (omega arith));
+        written = rw (occurrences-right (shown t) (span w t) w (ready .nonempty)) (none-written 0 start (occurrences w t));
         fewer = omega arith;
       }
 
@@ -60,53 +60,48 @@ module _ {w t : List ℕ} {row : List ℤ} {delta2 delta1 start : List ℕ} (rea
 
     -- past the text's end nothing is left
     pub running-over :
-        length t < b + length w →
+        span w t < b + length w →
         (occurred ≡ length (occurrences w t)) × (compared ≡ length (comparisons w t)) × (found ≡ in-front (occurrences w t) start)
     unfolding listed comparisons-of
     running-over past =
-        let none = run-over (byte t) w b s (so-far .fuel) (length t) past in
+        let none = run-over (shown t) w b s (so-far .fuel) (span w t) past in
         let done = all-written 0 start (rw none at (so-far .written)) in
-        (omega (arith, done .1), omega (arith, rw none at (so-far .counted)), done .0)
+        (omega (arith, done .after), omega (arith, rw none at (so-far .counted)), put-front done)
 
     -- k is the shift of the step at b
-    module _ {agreed k : ℕ} (ended : Ended w t b agreed) (shifted : k ≡ step (byte t) w b s .shift) where
-      pub next-carried : Carried (byte t) w (b + k) k
-      next-carried = rw shifted (carried-on (byte t) w b s (ready .nonempty) (so-far .carried))
+    module _ {agreed k : ℕ} (ended : Ended w t b agreed) (shifted : k ≡ step (shown t) w b s .shift) where
+      pub next-carried : Carried (shown t) w (b + k) k
+      next-carried = rw shifted (carried-on (shown t) w b s (ready .nonempty) (so-far .carried))
 
       -- the step at b is the first of those that are left
-      abbrev First : (fuel later : ℕ) → Type 0
-      First fuel later = left w t fuel b s ≡ step (byte t) w b s ∷ left w t later (b + k) k
-
-      first-left : (fuel : ℕ) → length t < b + fuel → (later : ℕ) × (length t < b + k + later) × First fuel later
+      first-left :
+          (fuel : ℕ) → span w t < b + fuel →
+          (later : ℕ) × (span w t < b + k + later) × (left w t fuel b s ≡ step (shown t) w b s ∷ left w t later (b + k) k)
       first-left zero l = absurd (omega (arith, ended .inside))
       first-left (suc fuel) l =
-          (fuel, omega (arith, next-carried .positive), rw shifted (run-step (byte t) w b s fuel (length t) (ended .inside)))
+          (fuel, omega (arith, next-carried .positive), rw shifted (run-step (shown t) w b s fuel (span w t) (ended .inside)))
 
       turn :
           (found' : List ℕ) (occurred' n : ℕ) → n ≡ min (suc agreed) (length w) → occurred' ≤ occurred + 1 →
           ((rest : List ℕ) →
-          Written 0 start found (occurrences w t) (cond (eqb agreed (length w)) (b ∷ rest) rest) occurred →
-          Written 0 start found' (occurrences w t) rest occurred') →
+          Partly-written 0 start found (occurrences w t) (cond (eqb agreed (length w)) (b ∷ rest) rest) occurred →
+          Partly-written 0 start found' (occurrences w t) rest occurred') →
           Running w t start found' (b + k) k occurred' (compared + n)
-      turn found' occurred' n count more on = go (first-left (so-far .fuel) (so-far .enough))
-        where
-          go :
-              (later : ℕ) × (length t < b + k + later) × First (so-far .fuel) later →
-              Running w t start found' (b + k) k occurred' (compared + n)
-          go (later, enough, first) =
-              let rest = left w t later (b + k) k in
-              let all = rw first at (so-far .counted) in
-              let list = rw (first, step-listed (byte t) w b s rest, ← (ended .count), whole ready) at (so-far .written) in
-              record {
-                fuel = later;
-                enough = enough;
-                inside = omega (arith, next-carried .within, ended .inside);
-                carried = next-carried;
-                counted = omega (arith, step-count (byte t) w b s rest, ended .count, whole ready);
-                few = omega (arith, next-carried .positive, ready .pattern, so-far .few);
-                written = on (listed rest) list;
-                fewer = omega (arith, next-carried .positive, so-far .fewer);
-              }
+      turn found' occurred' n count more on =
+          let (later, enough, first) = first-left (so-far .fuel) (so-far .enough) in
+          let rest = left w t later (b + k) k in
+          let all = rw first at (so-far .counted) in
+          let list = rw (first, step-listed (shown t) w b s rest, ← (ended .count), whole ready) at (so-far .written) in
+          record {
+            fuel = later;
+            enough = enough;
+            inside = omega (arith, next-carried .within, ended .inside);
+            carried = next-carried;
+            counted = omega (arith, step-count (shown t) w b s rest, ended .count, whole ready);
+            few = omega (arith, next-carried .positive, ready .pattern, so-far .few);
+            written = on (listed rest) list;
+            fewer = omega (arith, next-carried .positive, so-far .fewer);
+          }
 
       -- one comparison differed
       pub running-on : agreed < length w → Running w t start found (b + k) k occurred (compared + (agreed + 1))

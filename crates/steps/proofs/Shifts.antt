@@ -5,19 +5,20 @@ use mathlib.Core.Path.{_≡_, sym, _∙_}
 use Prim.Native.Nat.{ℕ, _+_, _*_, _-_, _≤_, _<_}
 use native.Mathlib.Omega.{arith}
 use lib.ListN.{length, getD}
-use Rattle.tables.proofs.Order.{order-whole, Δ2-length, stored-Δ1-length}
-use Rattle.tables.specs.Promises.{Order-whole}
+use Rattle.tables.proofs.Order.{order-length, Δ2-length, stored-Δ1-length}
 use Rattle.tables.specs.Sets.{byte}
 use Rattle.tables.specs.Tables.{order, Δ2, stored-Δ1}
 use Rattle.steps.proofs.Steps.{agreeing-at-most, step-shift-first, step-shift-later}
 use Rattle.steps.proofs.Stored.{begins-room, begins-entry, stored-Δ1-inside, stored-Δ1-entry}
-use Rattle.steps.specs.Run.{Compared}
+use Rattle.steps.proofs.Text.{shown-byte, span-length}
+use Rattle.steps.specs.Run.{Alignment-compared}
 use Rattle.steps.specs.Steps.{step}
+use Rattle.steps.specs.Text.{shown}
 
 -- the entry at i is inside the buffer, and it is the shift
 pub record Shift-at (w t buffer : List ℕ) (b s i : ℕ) : Type 0 where
   pub inside : i < length buffer
-  pub shift : getD buffer i 0 ≡ step (byte t) w b s .shift
+  pub shift : getD buffer i 0 ≡ step (shown t) w b s .shift
 
 -- the byte that the text shows at the last position, and where Δ1 has its entry
 abbrev pub last-byte : (w t : List ℕ) (b : ℕ) → ℕ
@@ -26,7 +27,7 @@ last-byte w t b = byte t (b + length w - 1)
 abbrev pub first-place : (w t : List ℕ) (b s : ℕ) → ℕ
 first-place w t b s = last-byte w t b * length w + s - 1
 
-module _ {w t delta2 delta1 : List ℕ} {b s agreed : ℕ} (known : Compared w t delta2 delta1 b s agreed) where
+module _ {w t delta2 delta1 : List ℕ} {b s agreed : ℕ} (known : Alignment-compared w t delta2 delta1 b s agreed) where
   nonempty : 1 ≤ length w
   nonempty = omega (arith, known .positive, known .within)
 
@@ -38,17 +39,17 @@ module _ {w t delta2 delta1 : List ℕ} {b s agreed : ℕ} (known : Compared w t
       let at : i + 1 ≡ seen * length w + s = omega (arith, known .positive) in
       let in-table = stored-Δ1-inside w seen s i l (known .positive) (known .within) at in
       let whole = stored-Δ1-length w in
+      let inside : b + (length w - 1) < length t = omega (arith, known .inside, nonempty, span-length w t) in
       record {
         inside = omega (arith, begins-room (stored-Δ1 w) delta1 (known .delta1-ready));
         shift =
             begins-entry (stored-Δ1 w) delta1 (known .delta1-ready) i 0 (omega arith)
             ∙ stored-Δ1-entry w seen s i l (known .positive) (known .within) at
-            ∙ rw last (sym (step-shift-first (byte t) w b s (sym (known .count) ∙ e)));
+            ∙ rw (last, ← shown-byte t (b + (length w - 1)) inside) (sym (step-shift-first (shown t) w b s (sym (known .count) ∙ e)));
       }
 
   at-most : agreed ≤ length w
-  unfolding Order-whole
-  at-most = omega (arith, known .count, agreeing-at-most (byte t) w b (order w), order-whole w nonempty .0)
+  at-most = omega (arith, known .count, agreeing-at-most (shown t) w b (order w), order-length w nonempty)
 
   pub later-shift-at : 1 ≤ agreed → Shift-at w t delta2 b s agreed
   later-shift-at l =
@@ -57,5 +58,5 @@ module _ {w t delta2 delta1 : List ℕ} {b s agreed : ℕ} (known : Compared w t
         inside = omega (arith, at-most, begins-room (Δ2 w) delta2 (known .delta2-ready));
         shift =
             begins-entry (Δ2 w) delta2 (known .delta2-ready) agreed 0 (omega (arith, at-most))
-            ∙ rw (known .count) (sym (step-shift-later (byte t) w b s (omega (arith, known .count))));
+            ∙ rw (known .count) (sym (step-shift-later (shown t) w b s (omega (arith, known .count))));
       }

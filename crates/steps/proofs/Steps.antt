@@ -1,9 +1,9 @@
 -- One step, unfolded once: how many comparisons agree along a row, the shift, the number of comparisons, and a run by its first step.
 -- By the tests of the definitions; after this file no proof unfolds `step`, `align` or `compared`.
 use mathlib.Core.Bool.{cond}
-use mathlib.Core.List.{List, [], _∷_, _++_, map, append-assoc}
+use mathlib.Core.List.{List, [], _∷_, map}
 use mathlib.Core.Logic.{_≢_, ⊎-elim}
-use mathlib.Core.Path.{_≡_, refl, sym, _∙_}
+use mathlib.Core.Path.{_≡_, refl, sym}
 use Prim.Native.Nat.{ℕ, zero, suc, _+_, _-_, _≤_, _<_, min}
 use native.Mathlib.Nat.{zero-add}
 use native.Mathlib.Omega.{arith}
@@ -13,7 +13,7 @@ use lib.ListN.{length, getD, take, drop, length-append, length-map, length-take}
 use lib.Seq.{drop-cons, drop-length}
 use Rattle.tables.proofs.Cases.{eq-or-ne}
 use Rattle.tables.specs.Sets.{byte}
-use Rattle.tables.specs.Tables.{order, second-group, third-group, k-min, r-min, period, Δ1, Δ2}
+use Rattle.tables.specs.Tables.{order, Δ1, Δ2}
 use Rattle.steps.specs.Steps.{Alignment, agreeing, align, step, alignments-from, compared, is-occurrence, comparisons-of, listed}
 
 -- what an alignment at b shows at a pattern position
@@ -37,13 +37,29 @@ module _ (f : ℕ → ℕ) (w : List ℕ) (b : ℕ) where
   unfolding agreeing
   agreeing-differs i row d = rw (ne-eqb _ _ d)
 
+  -- the first n entries of a row agree, and the next one, if there is one, differs
+  pub record Ends (row : List ℕ) (n : ℕ) : Type 0 where
+    pub within : n ≤ length row
+    pub agree : (x : ℕ) → x < n → Agrees f w b (getD row x 0)
+    pub differ : n < length row → Differs f w b (getD row n 0)
+
+  pub agreeing-ends : (row : List ℕ) → Ends row (agreeing f w b row)
+  agreeing-ends [] =
+      rw agreeing-none (record { within = omega arith; agree = λ x l. absurd (omega arith); differ = λ l. absurd (omega arith) })
+  agreeing-ends (i ∷ row) = ⊎-elim (on (agreeing-ends row)) stop (eq-or-ne (byte w i) (f (b + i)))
+    where
+      on : Ends row (agreeing f w b row) → Agrees f w b i → Ends (i ∷ row) (agreeing f w b (i ∷ row))
+      on r e = rw (agreeing-agrees i row e) (record { within = omega arith; agree = front; differ = λ l. r .differ (omega arith) })
+        where
+          front : (x : ℕ) → x < suc (agreeing f w b row) → Agrees f w b (getD (i ∷ row) x 0)
+          front zero l = e
+          front (suc x) l = r .agree x (omega arith)
+
+      stop : Differs f w b i → Ends (i ∷ row) (agreeing f w b (i ∷ row))
+      stop d = rw (agreeing-differs i row d) (record { within = omega arith; agree = λ x l. absurd (omega arith); differ = λ l. d })
+
   pub agreeing-at-most : (row : List ℕ) → agreeing f w b row ≤ length row
-  agreeing-at-most [] = omega (arith, agreeing-none)
-  agreeing-at-most (i ∷ row) =
-      ⊎-elim
-      (λ e. omega (arith, agreeing-agrees i row e, agreeing-at-most row))
-      (λ d. omega (arith, agreeing-differs i row d))
-      (eq-or-ne (byte w i) (f (b + i)))
+  agreeing-at-most row = agreeing-ends row .within
 
   -- the first n entries of a row agree: the count goes on with those after them
   abbrev pub Agreed : (row : List ℕ) → (n : ℕ) → Type 0
@@ -65,16 +81,6 @@ module _ (f : ℕ → ℕ) (w : List ℕ) (b : ℕ) where
   pub agreed-all : (row : List ℕ) → Agreed row (length row) → agreeing f w b row ≡ length row
   agreed-all row h = let next = rw drop-length at h in omega (arith, agreeing-none)
 
--- the shifts beside the order's third group, beside both its groups, and beside all of it, by the number that agreed: Δ2 with Δ1 at its front
-abbrev pub third-shifts : (w : List ℕ) → List ℕ
-third-shifts w = map (r-min w) (third-group w) ++ (period w ∷ [])
-
-abbrev pub second-shifts : (w : List ℕ) → List ℕ
-second-shifts w = map (k-min w) (second-group w) ++ third-shifts w
-
-abbrev pub shifts : (w : List ℕ) → (c s : ℕ) → List ℕ
-shifts w c s = Δ1 w c s ∷ second-shifts w
-
 module _ (f : ℕ → ℕ) (w : List ℕ) (b s : ℕ) where
   -- the shift is Δ1 where the first comparison differs, else Δ2 by the number that agreed
   pub step-shift-first : agreeing f w b (order w) ≡ 0 → step f w b s .shift ≡ Δ1 w (f (b + (length w - 1))) s
@@ -84,14 +90,6 @@ module _ (f : ℕ → ℕ) (w : List ℕ) (b s : ℕ) where
   pub step-shift-later : 1 ≤ agreeing f w b (order w) → step f w b s .shift ≡ getD (Δ2 w) (agreeing f w b (order w)) 0
   unfolding step align
   step-shift-later l = rw (ne-eqb (agreeing f w b (order w)) 0 (omega arith))
-
-  pub step-shift : step f w b s .shift ≡ getD (shifts w (f (b + (length w - 1))) s) (agreeing f w b (order w)) 0
-  unfolding Δ2
-  step-shift = go (agreeing f w b (order w)) refl
-    where
-      go : (n : ℕ) → agreeing f w b (order w) ≡ n → step f w b s .shift ≡ getD (shifts w (f (b + (length w - 1))) s) n 0
-      go zero e = step-shift-first e
-      go (suc n) e = step-shift-later (omega arith) ∙ rw (e, append-assoc)
 
   -- of the text a step reads only how many agree and the byte at the last position
   pub step-determined :

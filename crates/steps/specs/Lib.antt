@@ -1,4 +1,6 @@
+pub mod Text
 pub mod Steps
 pub mod Occurrences
+pub mod Bound
 pub mod Promises
 pub mod Run

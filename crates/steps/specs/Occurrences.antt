@@ -6,6 +6,7 @@ use lib.Dec.{leb, eqb}
 use lib.ListN.{length}
 use Rattle.tables.specs.Least.{all-from}
 use Rattle.tables.specs.Sets.{byte}
+use Rattle.steps.specs.Text.{shown, span}
 
 -- an occurrence (find) is a position b with b + m at most N and f(b + j) = w(j) for each j from 0 to m - 1
 unfoldable pub occurs : (f : ℕ → ℕ) → (N : ℕ) → (w : List ℕ) → (b : ℕ) → Bool
@@ -22,6 +23,6 @@ occurrences-from (suc n) b f N w =
 unfoldable pub all-occurrences : (f : ℕ → ℕ) → (N : ℕ) → (w : List ℕ) → List ℕ
 all-occurrences f N w = occurrences-from (suc N) 0 f N w
 
--- the occurrences of w in the text t, document 01's open chain
+-- the occurrences (finds) of w in the text (chain) t
 unfoldable pub occurrences : (w t : List ℕ) → List ℕ
-occurrences w t = all-occurrences (byte t) (length t) w
+occurrences w t = all-occurrences (shown t) (span w t) w

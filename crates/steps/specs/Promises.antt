@@ -1,12 +1,11 @@
 -- What is promised of the steps, over any text as in Steps: each is a type, and its proof is in proofs/ (docs/PROMISES.md).
 -- These are definitions.
-use mathlib.Core.Bool.{cond}
 use mathlib.Core.List.{List, [], _∷_}
 use mathlib.Core.Path.{_≡_}
-use Prim.Native.Nat.{ℕ, zero, suc, _+_, _*_, _-_, _≤_, _<_}
-use lib.Dec.{ltb}
+use Prim.Native.Nat.{ℕ, _+_, _≤_, _<_}
 use lib.ListN.{length}
 use Rattle.tables.specs.Tables.{period}
+use Rattle.steps.specs.Bound.{bound}
 use Rattle.steps.specs.Occurrences.{all-occurrences}
 use Rattle.steps.specs.Steps.{Alignment, Comparison, alignments-from, alignments, comparisons-of, listed}
 
@@ -38,10 +37,6 @@ unfoldable pub Comparisons-decide : Type 0
 Comparisons-decide =
     (f g : ℕ → ℕ) (N : ℕ) (w : List ℕ) → 1 ≤ length w → Same-at (comparisons-of (alignments f N w)) f g →
     alignments g N w ≡ alignments f N w
-
--- the bound of demand 3 for m, n, h finds and the period p: 2 × n - m + h × (the larger of 0 and m - 2 × p); 0 for n below m
-unfoldable pub bound : (m n h p : ℕ) → ℕ
-bound m n h p = cond (ltb n m) 0 (2 * n - m + h * (m - 2 * p))
 
 -- demand 3: the count of comparisons keeps the bound
 unfoldable pub Few-comparisons : Type 0

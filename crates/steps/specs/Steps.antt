@@ -1,5 +1,5 @@
 -- The steps of a search with every comparison (document 01, "The steps"), over any text: f shows the byte at a position, and the positions
--- below N are shown. Document 01's open chain t has f = byte t and N = length t. These are definitions.
+-- below N are shown. A text t has f = shown t and N = span w t. These are definitions.
 use mathlib.Core.Bool.{Bool, cond}
 use mathlib.Core.List.{List, [], _∷_, _++_, map}
 use Prim.Native.Nat.{ℕ, zero, suc, _+_, _-_}
@@ -7,6 +7,7 @@ use lib.Dec.{leb, eqb}
 use lib.ListN.{length, getD, take}
 use Rattle.tables.specs.Sets.{byte}
 use Rattle.tables.specs.Tables.{order, Δ1, Δ2}
+use Rattle.steps.specs.Text.{shown, span}
 
 -- a look: one comparison, known by its pattern position (motif place) i and its text position (chain place) b + i
 pub record Comparison : Type 0 where
@@ -71,6 +72,10 @@ unfoldable pub listed : List Alignment → List ℕ
 listed [] = []
 listed (a ∷ later) = cond (is-occurrence a) (a .position ∷ listed later) (listed later)
 
--- the comparisons of a search for w in the text t, document 01's open chain; C is their number
+-- the alignments of a search for w in the text (chain) t
+abbrev pub alignments-in : (w t : List ℕ) → List Alignment
+alignments-in w t = alignments (shown t) (span w t) w
+
+-- its comparisons (looks), in their order; C is their number
 unfoldable pub comparisons : (w t : List ℕ) → List Comparison
-comparisons w t = comparisons-of (alignments (byte t) (length t) w)
+comparisons w t = comparisons-of (alignments-in w t)

@@ -1,8 +1,8 @@
 // The steps of a search, run by the pattern's tables. The steps, the occurrences by their meaning and what is promised of them are in specs/.
 ghost use mathlib.Core.Path.{_≡_};
-ghost use Rattle.tables.specs.Sets.{byte};
-ghost use Rattle.steps.specs.Run.{Compared, Run-ready, Run-outcome};
+ghost use Rattle.steps.specs.Run.{Alignment-compared, Run-ready, Run-outcome};
 ghost use Rattle.steps.specs.Steps.{step};
+ghost use Rattle.steps.specs.Text.{shown};
 
 // What the steps come to.
 pub struct Counts {
@@ -20,8 +20,8 @@ fn shift_after(
     s: usize,
     agreed: usize,
 ) -> usize
-    requires { ⌜ Compared (now pattern) (now text) (now delta2) (now delta1) b s agreed ⌝ }
-    ensures { λ r. ⌜ r ≡ step (byte (now (text .entry))) (now (pattern .entry)) b s .shift ⌝ }
+    requires { ⌜ Alignment-compared (now pattern) (now text) (now delta2) (now delta1) b s agreed ⌝ }
+    ensures { λ r. ⌜ r ≡ step (shown (now (text .entry))) (now (pattern .entry)) b s .shift ⌝ }
 {
     let m = pattern.len();
     if agreed == 0 {

@@ -4,7 +4,7 @@ use mathlib.Core.Bool.{Bool, true, false, _&&_, and-eq-true-iff}
 use mathlib.Core.List.{List}
 use mathlib.Core.Logic.{inl, inr, ⊎-elim}
 use mathlib.Core.Path.{_≡_, sym, _∙_}
-use Prim.Native.Nat.{ℕ, _+_, _-_, _≤_}
+use Prim.Native.Nat.{ℕ, _+_, _-_, _≤_, _<_}
 use native.Mathlib.Omega.{arith}
 use borrow.Author.Tests.{lt-ltb, le-ltb}
 use lib.IntN.{pos, subℕ}
@@ -33,27 +33,27 @@ at-last w s k g e =
 no-last : (w : List ℕ) (s k : ℕ) → length w ≤ s → keeps-last w s k ≡ true
 no-last w s k b = rw (lt-ltb (length w) (s + 1) (omega arith)) (outside-empty w _ _ k)
 
--- position m - 1 is g
-at-seen : (w : List ℕ) (c k g : ℕ) → g + 1 ≡ length w → keeps-seen w c k ≡ outside (Neg w c (pos g)) k
-at-seen w c k g e = let place : length w - 1 ≡ g = omega arith in rw place
-
 -- m is outside both sets
-m-kept : (w : List ℕ) (s : ℕ) → keeps-last w s (length w) ≡ true
-m-kept w s =
-    let m = length w in
-    ⊎-elim (no-last w s m)
-    (λ b. rw (at-last w s m (m - s - 1) (omega arith)) (outside-iff w _ (m - s - 1) m .1 (λ i. absurd (omega arith))))
-    (le-or-lt m s)
-
 m-passes : (w : List ℕ) (c s : ℕ) → 1 ≤ length w → keeps-last w s (length w) && keeps-seen w c (length w) ≡ true
-m-passes w c s b = let m = length w in rw (m-kept w s, outside-iff w c (m - 1) m .1 (λ i. absurd (omega arith)))
+m-passes w c s b =
+    let m = length w in
+    let above : (x g : ℕ) → g < m → outside (Neg w x (pos g)) m ≡ true = λ x g l. outside-iff w x g m .1 (λ i. absurd (omega arith)) in
+    let last = ⊎-elim (no-last w s m) (λ l. at-last w s m (m - s - 1) (omega arith) ∙ above _ (m - s - 1) (omega arith)) (le-or-lt m s) in
+    rw (last, above c (m - 1) (omega arith))
 
 -- where k is not outside the first set, there is a position m - s - 1
 fails-last : (w : List ℕ) (s k : ℕ) → keeps-last w s k ≡ false → (g : ℕ) × (g + s + 1 ≡ length w) × In-neg w (byte w g) g k
-fails-last w s k e = ⊎-elim (λ b. absurd (clash _ (no-last w s k b) e)) (λ b. at-g (length w - s - 1) (omega arith)) (le-or-lt (length w) s)
-  where
-    at-g : (g : ℕ) → g + s + 1 ≡ length w → (g : ℕ) × (g + s + 1 ≡ length w) × In-neg w (byte w g) g k
-    at-g g q = (g, q, outside-fails w (byte w g) g k (rw (at-last w s k g q) at e))
+fails-last w s k e =
+    let g = length w - s - 1 in
+    ⊎-elim
+    (λ b. absurd (clash _ (no-last w s k b) e))
+    (λ b. (g, omega arith, outside-fails w (byte w g) g k (rw (at-last w s k g (omega arith)) at e)))
+    (le-or-lt (length w) s)
+
+-- Δ1 is at least 1, whatever s is
+pub Δ1-positive : (w : List ℕ) (c s : ℕ) → 1 ≤ Δ1 w c s
+unfolding Δ1
+Δ1-positive w c s = least-facts (length w) 1 _ .low
 
 pub Δ1-facts : (w : List ℕ) (c s : ℕ) → 1 ≤ s → s ≤ length w → First-shift w c s (Δ1 w c s)
 unfolding Δ1
@@ -67,7 +67,9 @@ unfolding Δ1
       positive = value .low;
       within = within;
       outside-last = λ g e. outside-iff w (byte w g) g k .0 (sym (at-last w s k g e) ∙ and-eq-true-iff (keeps-last w s k) _ .0 both .0);
-      outside-seen = λ g e. outside-iff w c g k .0 (sym (at-seen w c k g e) ∙ and-eq-true-iff (keeps-last w s k) _ .0 both .1);
+      outside-seen = λ g e.
+          let place : g ≡ m - 1 = omega arith in
+          rw place (outside-iff w c (m - 1) k .0 (and-eq-true-iff (keeps-last w s k) _ .0 both .1));
       least = λ j a b.
           ⊎-elim (λ e. inl (fails-last w s j e)) (λ e. inr (m - 1, omega arith, outside-fails w c (m - 1) j e))
           (and-fails (keeps-last w s j) (keeps-seen w c j) (value .before j a b));

@@ -1,16 +1,16 @@
 -- The laws of k_min: it is 0 where no k has h_min(k) = h at or above k, else the least such k; and both are unique.
 -- The least number that passes k_min's test is at most m just where one passes. The least of those above k comes from that above k + 1.
-use mathlib.Core.Bool.{Bool, true, false, _&&_, cond, and-eq-true-iff}
+use mathlib.Core.Bool.{Bool, _&&_, and-eq-true-iff}
 use mathlib.Core.List.{List}
 use mathlib.Core.Logic.{_≢_, _⊎_, inl, inr, ⊎-elim}
 use mathlib.Core.Path.{_≡_, refl, sym, _∙_}
 use Prim.Native.Nat.{ℕ, _-_, _≤_, _<_}
 use native.Mathlib.Nat.{eq-or-lt-of-le}
 use native.Mathlib.Omega.{arith}
-use borrow.Author.Tests.{leb-true, leb-false, eqb-true, eqb-false}
+use borrow.Author.Tests.{leb-true, leb-false, eqb-true, eqb-false, le-leb, lt-leb}
 use lib.Dec.{leb, eqb}
 use lib.ListN.{length}
-use Rattle.tables.proofs.Cases.{and-fails}
+use Rattle.tables.proofs.Cases.{le-or-lt, and-fails}
 use Rattle.tables.proofs.HMin.{h-min-facts}
 use Rattle.tables.proofs.Least.{Least, least-facts}
 use Rattle.tables.specs.Facts.{H-min, K-min, No-k-min}
@@ -30,33 +30,29 @@ before w h v r j l u b =
 
 pub k-min-cases : (w : List ℕ) (h : ℕ) → h < length w → ((k-min w h ≡ 0) × No-k-min w h) ⊎ K-min w h (k-min w h)
 unfolding k-min
-k-min-cases w h b = go (leb v (length w)) refl
-  where
-    v : ℕ
-    v = least-from (length w) 1 (reaches w h)
-
-    value : Least (length w) 1 (reaches w h) v
-    value = least-facts (length w) 1 (reaches w h)
-
-    go : (z : Bool) → leb v (length w) ≡ z → ((cond z v 0 ≡ 0) × No-k-min w h) ⊎ K-min w h (cond z v 0)
-    go true e =
-        let u = leb-true v (length w) e in
-        let passes = value .passes (omega arith) in
-        let within = leb-true v h (and-eq-true-iff (eqb (h-min w v) h) _ .0 passes .1) in
-        inr (record {
-          positive = value .low;
-          within = within;
-          value = eqb-true _ _ (and-eq-true-iff (eqb (h-min w v) h) _ .0 passes .0);
-          least = λ j l u. before w h v value j l u (omega arith);
-        })
-    go false e = inl (refl, λ k l u. before w h v value k l (omega (arith, leb-false v (length w) e)) u)
+k-min-cases w h b =
+    let v = least-from (length w) 1 (reaches w h) in
+    let value = least-facts (length w) 1 (reaches w h) in
+    ⊎-elim
+    (λ (u : v ≤ length w).
+    let passes = and-eq-true-iff (eqb (h-min w v) h) (leb v h) .0 (value .passes (omega arith)) in
+    let within = leb-true v h (passes .1) in
+    rw (le-leb v (length w) u)
+    (inr (record {
+      positive = value .low;
+      within = within;
+      value = eqb-true (h-min w v) h (passes .0);
+      least = λ j l c. before w h v value j l c (omega arith);
+    })))
+    (λ u. rw (lt-leb v (length w) u) (inl (refl, λ k l c. before w h v value k l (omega arith) c)))
+    (le-or-lt v (length w))
 
 -- h is h_min(k) for k = k_min(h)
 pub k-min-h-min : (w : List ℕ) (h k : ℕ) → K-min w h k → h < length w → H-min w k h
 k-min-h-min w h k r b = rw (r .value) at (h-min-facts w k (r .positive) (omega arith))
 
 -- two k's that are k_min(h) are equal
-pub k-min-same : (w : List ℕ) (h k k' : ℕ) → K-min w h k → K-min w h k' → k ≡ k'
+k-min-same : (w : List ℕ) (h k k' : ℕ) → K-min w h k → K-min w h k' → k ≡ k'
 k-min-same w h k k' r r' =
     let p : ¬ (k < k') = λ q. r' .least k (r .positive) q (r .value) in
     let p' : ¬ (k' < k) = λ q. r .least k' (r' .positive) q (r' .value) in

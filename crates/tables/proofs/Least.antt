@@ -3,7 +3,7 @@
 use mathlib.Core.Bool.{Bool, true, false, not, cond, true≢false, and-eq-true-iff}
 use mathlib.Core.List.{List}
 use mathlib.Core.Logic.{_↔_, ⊎-elim}
-use mathlib.Core.Path.{_≡_, refl, subst}
+use mathlib.Core.Path.{_≡_, refl, sym, subst}
 use Prim.Native.Nat.{ℕ, zero, suc, _+_, _-_, _≤_, _<_}
 use native.Mathlib.Nat.{eq-or-lt-of-le}
 use native.Mathlib.Omega.{arith}
@@ -65,10 +65,10 @@ pub some-fails : (n i : ℕ) (f : ℕ → Bool) → all-from n i f ≡ false →
 unfolding all-from
 some-fails zero i f e = absurd (true≢false e)
 some-fails (suc n) i f e =
-    ⊎-elim (λ q. (i, omega arith, omega arith, q)) (λ q. later (some-fails n (suc i) f q)) (and-fails (f i) (all-from n (suc i) f) e)
-  where
-    later : (k : ℕ) × (suc i ≤ k) × (k < suc i + n) × (f k ≡ false) → (k : ℕ) × (i ≤ k) × (k < i + suc n) × (f k ≡ false)
-    later r = (r .0, omega arith, omega arith, r .3)
+    ⊎-elim
+    (λ q. (i, omega arith, omega arith, q))
+    (λ q. let (k, l, u, fails) = some-fails n (suc i) f q in (k, omega arith, omega arith, fails))
+    (and-fails (f i) (all-from n (suc i) f) e)
 
 -- Pos and Neg at a position of the pattern are what Facts says of them
 pub pos-iff : (w : List ℕ) (c i k : ℕ) → (Pos w c (pos i) k ≡ true) ↔ In-pos w c i k
@@ -88,18 +88,11 @@ neg-iff w c i k =
     )
 
 pub outside-iff : (w : List ℕ) (c i k : ℕ) → (outside (Neg w c (pos i)) k ≡ true) ↔ Out-neg w c i k
-outside-iff w c i k = (same, back)
+outside-iff w c i k = go (Neg w c (pos i) k) refl
   where
-    same : outside (Neg w c (pos i)) k ≡ true → Out-neg w c i k
-    same e l =
-        ⊎-elim (λ q. q) (λ q. absurd (clash _ (neg-iff w c i k .1 (l, q)) (not-true _ e))) (eq-or-ne (byte w (i - k)) c)
-
-    back : Out-neg w c i k → outside (Neg w c (pos i)) k ≡ true
-    back h = go (Neg w c (pos i) k) refl
-      where
-        go : (z : Bool) → Neg w c (pos i) k ≡ z → not z ≡ true
-        go true e = let found = neg-iff w c i k .0 e in absurd (found .1 (h (found .0)))
-        go false e = refl
+    go : (z : Bool) → Neg w c (pos i) k ≡ z → (not z ≡ true) ↔ Out-neg w c i k
+    go true e = let (l, differs) = neg-iff w c i k .0 e in (λ q. absurd (true≢false (sym q)), λ h. absurd (differs (h l)))
+    go false e = (λ q l. ⊎-elim (λ s. s) (λ d. absurd (clash _ (neg-iff w c i k .1 (l, d)) e)) (eq-or-ne (byte w (i - k)) c), λ h. refl)
 
 pub outside-fails : (w : List ℕ) (c i k : ℕ) → outside (Neg w c (pos i)) k ≡ false → In-neg w c i k
 outside-fails w c i k e = neg-iff w c i k .0 (not-false (Neg w c (pos i) k) e)
@@ -108,3 +101,8 @@ outside-fails w c i k e = neg-iff w c i k .0 (not-false (Neg w c (pos i) k) e)
 pub outside-empty : (w : List ℕ) (c i k : ℕ) → outside (Neg w c (negsuc i)) k ≡ true
 unfolding Neg
 outside-empty w c i k = refl
+
+-- so is Pos
+pub pos-empty : (w : List ℕ) (c i k : ℕ) → Pos w c (negsuc i) k ≡ false
+unfolding Pos
+pos-empty w c i k = refl

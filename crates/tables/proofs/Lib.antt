@@ -5,9 +5,10 @@ pub mod KMin
 pub mod RMin
 pub mod Periods
 pub mod FirstShift
-pub mod Refuted
 pub mod Times
 pub mod Runs
 pub mod Order
 pub mod Groups
+pub mod LaterShift
 pub mod Stored
+pub mod Rooms

@@ -1,20 +1,18 @@
--- The laws of the period: its value, that the value is unique, that it is above each k_min and at most each r_min, and that it is r_min(0).
+-- The laws of the period: its value, that it is above each k_min and at most each r_min, and that it is r_min(0).
 -- The numbers from 1 to m - 1 are tested, and m is a period. Were k_min(h) = k above the period p, then h_min(k - p) = h too.
-use mathlib.Core.Bool.{Bool, true}
+use mathlib.Core.Bool.{Bool}
 use mathlib.Core.List.{List}
-use mathlib.Core.Logic.{⊎-elim}
 use mathlib.Core.Path.{_≡_, sym, _∙_}
 use Prim.Native.Nat.{ℕ, _+_, _-_, _≤_, _<_}
-use native.Mathlib.Nat.{eq-or-lt-of-le}
 use native.Mathlib.Omega.{arith}
 use borrow.Author.Tests.{eqb-true, eq-eqb}
 use lib.Dec.{eqb}
 use lib.ListN.{length}
-use Rattle.tables.proofs.Cases.{le-or-lt, clash}
-use Rattle.tables.proofs.HMin.{h-min-is, period-h-min}
+use Rattle.tables.proofs.Cases.{clash}
+use Rattle.tables.proofs.HMin.{h-min-is, h-min-period, period-h-min}
 use Rattle.tables.proofs.KMin.{k-min-h-min}
 use Rattle.tables.proofs.Least.{least-facts, all-each, each-all}
-use Rattle.tables.proofs.RMin.{r-min-facts, r-min-period}
+use Rattle.tables.proofs.RMin.{r-min-unique, r-min-period}
 use Rattle.tables.specs.Facts.{Has-period, H-min, K-min, R-min, Period}
 use Rattle.tables.specs.Least.{all-from}
 use Rattle.tables.specs.Sets.{byte}
@@ -23,12 +21,6 @@ use Rattle.tables.specs.Tables.{r-min, period}
 -- w(i) = w(i + p) wherever both are in the pattern
 abbrev repeats : (w : List ℕ) (p : ℕ) → Bool
 repeats w p = all-from (length w - p) 0 (λ i. eqb (byte w i) (byte w (i + p)))
-
-repeats-period : (w : List ℕ) (p : ℕ) → repeats w p ≡ true → Has-period w p
-repeats-period w p e i b = eqb-true _ _ (all-each _ _ _ e i (omega arith) (omega arith))
-
-period-repeats : (w : List ℕ) (p : ℕ) → Has-period w p → repeats w p ≡ true
-period-repeats w p h = each-all _ _ _ (λ i l b. eq-eqb _ _ (h i (omega arith)))
 
 pub period-facts : (w : List ℕ) → 1 ≤ length w → Period w (period w)
 unfolding period
@@ -39,16 +31,9 @@ period-facts w b =
     record {
       positive = r .low;
       within = omega arith;
-      value = ⊎-elim (λ q i u. absurd (omega arith)) (λ q. repeats-period w p (r .passes (omega arith))) (le-or-lt m p);
-      least = λ j l u h. clash _ (period-repeats w j h) (r .before j l u);
+      value = λ i u. eqb-true _ _ (all-each _ _ _ (r .passes (omega arith)) i (omega arith) (omega arith));
+      least = λ j l u h. clash _ (each-all _ _ _ (λ i a b. eq-eqb _ _ (h i (omega arith)))) (r .before j l u);
     }
-
-pub period-unique : (w : List ℕ) (p : ℕ) → Period w p → period w ≡ p
-period-unique w p f =
-    let g = period-facts w (omega arith) in
-    let below : ¬ (period w < p) = λ q. f .least (period w) (g .positive) q (g .value) in
-    let above : ¬ (p < period w) = λ q. g .least p (f .positive) q (f .value) in
-    omega arith
 
 -- if w has a period p below k, then what k says of a position, k - p says too
 h-min-less : (w : List ℕ) (p k h : ℕ) → Has-period w p → p < k → k ≤ h → H-min w k h → H-min w (k - p) h
@@ -65,24 +50,15 @@ h-min-less w p k h per b l r =
         let nearer : j - k + p ≡ j - (k - p) = omega arith in
         sym (rw nearer at (per (j - k) (omega arith)))
 
--- k_min(h) is below each period
-k-min-below : (w : List ℕ) (h k p : ℕ) → K-min w h k → h < length w → 1 ≤ p → Has-period w p → k < p
-k-min-below w h k p r b l per =
-    let not-above : ¬ (p ≤ k) = λ q. ⊎-elim equal less (eq-or-lt-of-le q) in
-    omega arith
-  where
-    equal : p ≡ k → ⊥
-    equal e = omega (arith, r .value, period-h-min w k (r .positive) (omega arith) (rw e at per))
-
-    less : p < k → ⊥
-    less q =
-        let at-h = h-min-less w p k h per q (r .within) (k-min-h-min w h k r b) in
-        r .least (k - p) (omega arith) (omega arith) (h-min-is w (k - p) h (omega arith) (omega arith) at-h)
-
 pub k-min-below-period : (w : List ℕ) (h k : ℕ) → K-min w h k → h < length w → k < period w
 k-min-below-period w h k r b =
-    let p = period-facts w (omega arith) in
-    k-min-below w h k (period w) r b (p .positive) (p .value)
+    let p = period w in
+    let f = period-facts w (omega arith) in
+    let not-equal : ¬ (p ≡ k) = λ e. omega (arith, r .value, period-h-min w k (r .positive) (omega arith) (rw e at (f .value))) in
+    let not-less : ¬ (p < k) = λ q.
+    let at-h = h-min-less w p k h (f .value) q (r .within) (k-min-h-min w h k r b) in
+    r .least (k - p) (omega arith) (omega arith) (h-min-is w (k - p) h (omega arith) (omega arith) at-h) in
+    omega arith
 
 pub period-le-r-min : (w : List ℕ) (h r : ℕ) → R-min w h r → period w ≤ r
 period-le-r-min w h r f =
@@ -92,11 +68,11 @@ period-le-r-min w h r f =
 
 pub period-r-min : (w : List ℕ) → 1 ≤ length w → period w ≡ r-min w 0
 period-r-min w b =
-    let r = r-min-facts w 0 b in
-    period-unique w (r-min w 0)
+    let p = period-facts w b in
+    sym (r-min-unique w 0 (period w)
     (record {
-      positive = r .above;
-      within = r .within;
-      value = r-min-period w 0 (r-min w 0) r;
-      least = λ j l u h. r .least j l u (period-h-min w j l (omega arith) h);
-    })
+      above = p .positive;
+      within = p .within;
+      value = period-h-min w (period w) (p .positive) (p .within) (p .value);
+      least = λ j l u e. p .least j l u (h-min-period w j l (omega arith) e);
+    }))

@@ -2,8 +2,8 @@
 -- h_min(m) = m - 1, so m passes r_min's test; r_min(r - 1) comes from r_min(r).
 use mathlib.Core.Bool.{Bool}
 use mathlib.Core.List.{List}
-use mathlib.Core.Logic.{_≢_, ⊎-elim}
-use mathlib.Core.Path.{_≡_}
+use mathlib.Core.Logic.{⊎-elim}
+use mathlib.Core.Path.{_≡_, ap}
 use Prim.Native.Nat.{ℕ, suc, _-_, _≤_, _<_}
 use native.Mathlib.Nat.{eq-or-lt-of-le}
 use native.Mathlib.Omega.{arith}
@@ -51,12 +51,12 @@ r-min-here w r l u b =
     record { above = omega arith; within = u; value = omega arith; least = λ j a c. absurd (omega arith) }
 
 pub r-min-other : (w : List ℕ) (r v : ℕ) → r ≤ h-min w r → R-min w r v → R-min w (r - 1) v
-r-min-other w r v b f = record { above = omega arith; within = f .within; value = f .value; least = none }
-  where
-    not-r : suc (h-min w r) ≢ r
-    not-r e = omega arith
-
-    none : (j : ℕ) → r - 1 < j → j < v → suc (h-min w j) ≢ j
-    none j a c =
-        let from-r : r ≤ j = omega arith in
-        ⊎-elim (λ q. rw q at not-r) (λ q. f .least j q c) (eq-or-lt-of-le from-r)
+r-min-other w r v b f =
+    record {
+      above = omega arith;
+      within = f .within;
+      value = f .value;
+      least = λ j a c.
+          let from-r : r ≤ j = omega arith in
+          ⊎-elim (λ q e. omega (arith, ap (h-min w) q)) (λ q. f .least j q c) (eq-or-lt-of-le from-r);
+    }

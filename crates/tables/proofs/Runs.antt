@@ -1,71 +1,91 @@
--- Lists that are filled along a run of numbers, each of which has an entry or none: how often a number stands in such a list, and what holds of each.
+-- Lists that are filled along a run of numbers, each with an entry or none: how often a number stands there, and what before an entry.
 -- By induction on the run.
-use mathlib.Core.List.{List, [], _∷_, map}
+use mathlib.Core.Bool.{Bool, true, false, cond}
+use mathlib.Core.List.{List, [], _∷_, _++_, map}
 use mathlib.Core.Logic.{_≢_, ⊎-elim}
 use mathlib.Core.Path.{_≡_, refl}
-use Prim.Native.Nat.{ℕ, zero, suc, _+_, _-_, _≤_, _<_}
+use Prim.Native.Nat.{ℕ, zero, suc, _+_, _≤_, _<_}
+use native.Mathlib.Nat.{eq-or-lt-of-le}
 use native.Mathlib.Omega.{arith}
 use lib.ListN.{length, getD}
 use Rattle.tables.proofs.Cases.{eq-or-ne}
-use Rattle.tables.proofs.Times.{times-none, times-here, times-other}
+use Rattle.tables.proofs.Times.{Stands, times-none, times-here, times-other, stands-later}
 use Rattle.tables.specs.Promises.{times}
 
--- the list holds, in their order, the entries of the `count` numbers from `at` on: Q v h says that v has the entry h
-pub data Run (Q : ℕ → ℕ → Type 0) : (count at : ℕ) → List ℕ → Type 0 where
-  end : {a : ℕ} → Run Q zero a []
-  entry : {n a : ℕ} {l : List ℕ} (h : ℕ) → Q a h → Run Q n (suc a) l → Run Q (suc n) a (h ∷ l)
-  none : {n a : ℕ} {l : List ℕ} → ((h : ℕ) → ¬ (Q a h)) → Run Q n (suc a) l → Run Q (suc n) a l
+-- the list holds, in their order, the entries of the numbers from `at` on and below `past`: Q v h says that v has the entry h
+pub data Run (Q : ℕ → ℕ → Type 0) (past : ℕ) : (at : ℕ) → List ℕ → Type 0 where
+  end : Run Q past past []
+  entry : {a : ℕ} {l : List ℕ} (h : ℕ) → Q a h → a < past → Run Q past (suc a) l → Run Q past a (h ∷ l)
+  none : {a : ℕ} {l : List ℕ} → ((h : ℕ) → ¬ (Q a h)) → Run Q past (suc a) l → Run Q past a l
 
-module _ {Q : ℕ → ℕ → Type 0} where
+module _ {Q : ℕ → ℕ → Type 0} {p : ℕ} where
+  -- a run that goes on where another ends
+  pub run-append : {e a : ℕ} {l l' : List ℕ} → e ≤ p → Run Q e a l → Run Q p e l' → Run Q p a (l ++ l')
+  run-append u end r' = r'
+  run-append u (entry h q b r) r' = entry h q (omega arith) (run-append u r r')
+  run-append u (none q r) r' = none q (run-append u r r')
+
+  -- where a test tells whether a number has an entry
+  pub run-if :
+      {a : ℕ} {l : List ℕ} (h : ℕ) (t : Bool) → (t ≡ true → Q a h) → (t ≡ false → (g : ℕ) → ¬ (Q a g)) → a < p → Run Q p (suc a) l →
+      Run Q p a (cond t (h ∷ l) l)
+  run-if h true here never b r = entry h (here refl) b r
+  run-if h false here never b r = none (never refl) r
+
   -- a number that is the entry of none in the run does not stand in the list
-  pub run-never : (i : ℕ) {n a : ℕ} {l : List ℕ} → Run Q n a l → ((v : ℕ) → a ≤ v → v < a + n → ¬ (Q v i)) → times i l ≡ 0
+  pub run-never : (i : ℕ) {a : ℕ} {l : List ℕ} → Run Q p a l → ((v : ℕ) → a ≤ v → ¬ (Q v i)) → times i l ≡ 0
   run-never i end h = times-none i
-  run-never i (entry {n} {a} {l} x q r) h =
-      let later = run-never i r (λ v b u. h v (omega arith) (omega arith)) in
-      ⊎-elim
-      (λ e. absurd (h a (omega arith) (omega arith) (rw e at q)))
-      (λ d. omega (arith, times-other i x l d))
-      (eq-or-ne x i)
-  run-never i (none q r) h = run-never i r (λ v b u. h v (omega arith) (omega arith))
+  run-never i (entry {a} {l} x q b r) h =
+      let later = run-never i r (λ v u. h v (omega arith)) in
+      ⊎-elim (λ e. absurd (h a (omega arith) (rw e at q))) (λ d. omega (arith, times-other i x l d)) (eq-or-ne x i)
+  run-never i (none q r) h = run-never i r (λ v u. h v (omega arith))
 
   -- a number that is the only entry of just one number v of the run stands in the list once
   pub run-once :
       (i v : ℕ) → Q v i → ((u : ℕ) → Q u i → u ≡ v) → ((h : ℕ) → Q v h → h ≡ i) →
-      {n a : ℕ} {l : List ℕ} → Run Q n a l → a ≤ v → v < a + n → times i l ≡ 1
+      {a : ℕ} {l : List ℕ} → Run Q p a l → a ≤ v → v < p → times i l ≡ 1
   run-once i v at-v only same end b u = absurd (omega arith)
-  run-once i v at-v only same (entry {n} {a} {l} x q r) b u =
-      ⊎-elim here (other (λ c. run-once i v at-v only same r c (omega arith))) (eq-or-ne x i)
-    where
-      here : x ≡ i → times i (x ∷ l) ≡ 1
-      here e =
-          let at-a : a ≡ v = only a (rw e at q) in
-          omega (arith, times-here i x l e, run-never i r (λ t c d g. omega (arith, only t g)))
-
-      other : (a < v → times i l ≡ 1) → x ≢ i → times i (x ∷ l) ≡ 1
-      other later d =
-          let past : a ≢ v = λ e. d (same x (rw e at q)) in
-          omega (arith, times-other i x l d, later (omega arith))
-  run-once i v at-v only same (none {n} {a} {l} q r) b u =
+  run-once i v at-v only same (entry {a} {l} x q t r) b u =
+      ⊎-elim
+      (λ e.
+      let at-a : a ≡ v = only a (rw e at q) in
+      omega (arith, times-here i x l e, run-never i r (λ t c g. omega (arith, only t g))))
+      (λ d.
+      let past : a ≢ v = λ e. d (same x (rw e at q)) in
+      omega (arith, times-other i x l d, run-once i v at-v only same r (omega arith) u))
+      (eq-or-ne x i)
+  run-once i v at-v only same (none {a} {l} q r) b u =
       let other : a ≢ v = λ e. q i (rw e at-v) in
-      run-once i v at-v only same r (omega arith) (omega arith)
+      run-once i v at-v only same r (omega arith) u
 
-  -- the list has at most as many entries as the run has numbers, up to a bound on those with an entry
-  pub run-length : (p : ℕ) → ((v h : ℕ) → Q v h → v < p) → {n a : ℕ} {l : List ℕ} → Run Q n a l → length l ≤ p - a
-  run-length p h end = omega arith
-  run-length p h (entry {n} {a} {l} x q r) = omega (arith, h a x q, run-length p h r)
-  run-length p h (none q r) = omega (arith, run-length p h r)
-
-  -- what holds of the entries holds of each number in the list
-  pub run-each :
-      {P : ℕ → Type 0} → ((v h : ℕ) → Q v h → P h) → {n a : ℕ} {l : List ℕ} → Run Q n a l → (i : ℕ) → i < length l → P (getD l i 0)
-  run-each holds end i b = absurd (omega arith)
-  run-each holds (entry {n} {a} {l} x q r) zero b = holds a x q
-  run-each holds (entry {n} {a} {l} x q r) (suc i) b = run-each holds r i (omega arith)
-  run-each holds (none q r) i b = run-each holds r i b
+  -- an entry is that of a number v, which has room for as many as stand before it, and there stand the entries of the numbers before v;
+  -- a number with an entry has room for one less than the next
+  pub run-at :
+      (room : ℕ → ℕ) → ((v : ℕ) → room v ≤ room (suc v)) → ((v h : ℕ) → Q v h → room v < room (suc v)) →
+      ((v g h : ℕ) → Q v g → Q v h → g ≡ h) → {a : ℕ} {l : List ℕ} → Run Q p a l → (i : ℕ) → i < length l →
+      (v : ℕ) × (room a + i ≤ room v) × Q v (getD l i 0) × ((u g : ℕ) → a ≤ u → u < v → Q u g → Stands l i g)
+  run-at room wide wider same end i b = absurd (omega arith)
+  run-at room wide wider same (entry {a} {l} x q t r) zero b = (a, omega arith, q, λ u g c d t. absurd (omega arith))
+  run-at room wide wider same (entry {a} {l} x q t r) (suc i) b =
+      let (v, late, here, before) = run-at room wide wider same r i (omega arith) in (
+        v,
+        omega (arith, wider a x q),
+        here,
+        λ u g c d t.
+            ⊎-elim (λ e. (0, omega arith, same u x g (rw e at q) t)) (λ e. stands-later x g i l (before u g e d t)) (eq-or-lt-of-le c),
+      )
+  run-at room wide wider same (none {a} {l} q r) i b =
+      let (v, late, here, before) = run-at room wide wider same r i b in (
+        v,
+        omega (arith, wide a),
+        here,
+        λ u g c d t.
+            ⊎-elim (λ e. absurd (q g (rw e t))) (λ e. before u g e d t) (eq-or-lt-of-le c),
+      )
 
   -- two functions that agree on the entries agree on the list
   pub run-map :
-      {A : Type 0} (f g : ℕ → A) → ((v h : ℕ) → Q v h → f h ≡ g h) → {n a : ℕ} {l : List ℕ} → Run Q n a l → map f l ≡ map g l
+      {A : Type 0} (f g : ℕ → A) {a : ℕ} {l : List ℕ} → ((v h : ℕ) → a ≤ v → v < p → Q v h → f h ≡ g h) → Run Q p a l → map f l ≡ map g l
   run-map f g same end = refl
-  run-map f g same (entry {n} {a} {l} x q r) = rw (same a x q, run-map f g same r)
-  run-map f g same (none q r) = run-map f g same r
+  run-map f g same (entry {a} x q t r) = rw (same a x (omega arith) t q, run-map f g (λ v h b. same v h (omega arith)) r)
+  run-map f g same (none q r) = run-map f g (λ v h b. same v h (omega arith)) r

@@ -1,12 +1,12 @@
--- How often a number stands in a list: at the front, in a list put together, and over all numbers the list's length.
+-- How often a number stands in a list: at its front, where it does at all, and over all numbers the list's length.
 -- By induction on the lists; the sum over the numbers below a bound by induction on the bound.
-use mathlib.Core.List.{List, [], _∷_, _++_}
+use mathlib.Core.List.{List, [], _∷_}
 use mathlib.Core.Logic.{_≢_, ⊎-elim}
 use mathlib.Core.Path.{_≡_, refl}
 use Prim.Native.Nat.{ℕ, zero, suc, _+_, _≤_, _<_}
 use native.Mathlib.Omega.{arith}
 use borrow.Author.Tests.{eq-eqb, ne-eqb}
-use lib.ListN.{length}
+use lib.ListN.{length, getD}
 use Rattle.tables.proofs.Cases.{eq-or-ne}
 use Rattle.tables.specs.Promises.{times}
 
@@ -22,13 +22,20 @@ pub times-none : (i : ℕ) → times i [] ≡ 0
 unfolding times
 times-none i = refl
 
-pub times-append : (i : ℕ) (xs ys : List ℕ) → times i (xs ++ ys) ≡ times i xs + times i ys
-times-append i [] ys = omega (arith, times-none i)
-times-append i (x ∷ xs) ys =
-    let later = times-append i xs ys in
+-- a number stands among the first c entries of a list
+abbrev pub Stands : (xs : List ℕ) (c i : ℕ) → Type 0
+Stands xs c i = (x : ℕ) × (x < c) × (getD xs x 0 ≡ i)
+
+pub stands-later : (x i c : ℕ) (xs : List ℕ) → Stands xs c i → Stands (x ∷ xs) (suc c) i
+stands-later x i c xs (j, u, e) = (suc j, omega arith, e)
+
+-- what is counted stands in the list
+pub times-stands : (i : ℕ) (xs : List ℕ) → 1 ≤ times i xs → Stands xs (length xs) i
+times-stands i [] h = absurd (omega (arith, times-none i))
+times-stands i (x ∷ xs) h =
     ⊎-elim
-    (λ e. omega (arith, times-here i x xs e, times-here i x (xs ++ ys) e))
-    (λ n. omega (arith, times-other i x xs n, times-other i x (xs ++ ys) n))
+    (λ e. (0, omega arith, e))
+    (λ n. stands-later x i (length xs) xs (times-stands i xs (omega (arith, times-other i x xs n))))
     (eq-or-ne x i)
 
 -- how often the numbers below a bound stand in a list, together
@@ -60,10 +67,8 @@ length-total : (n : ℕ) (xs : List ℕ) → ((i : ℕ) → n ≤ i → times i 
 length-total n [] h = total-none n
 length-total n (x ∷ xs) h =
     let below : ¬ (n ≤ x) = λ b. omega (arith, h x b, times-here x x xs refl) in
-    omega (arith, total-below n x xs (omega arith), length-total n xs later)
-  where
-    later : (i : ℕ) → n ≤ i → times i xs ≡ 0
-    later i b = ⊎-elim (λ e. omega (arith, h i b, times-here i x xs e)) (λ q. omega (arith, h i b, times-other i x xs q)) (eq-or-ne x i)
+    let later = length-total n xs λ i b. omega (arith, h i b, times-other i x xs (λ e. omega arith)) in
+    omega (arith, total-below n x xs (omega arith))
 
 total-once : (n : ℕ) (xs : List ℕ) → ((i : ℕ) → i < n → times i xs ≡ 1) → total n xs ≡ n
 unfolding total

@@ -1,6 +1,7 @@
 pub mod Least
 pub mod Sets
 pub mod Tables
+pub mod Buffers
 pub mod Prepare
 pub mod Promises
 pub mod Facts

@@ -1,34 +1,60 @@
--- The worked examples of document 01 hold of the definitions.
--- Each claim is computed: both sides of its equation come to the same value.
-use mathlib.Core.Path.{refl}
+-- The worked examples hold of the definitions.
+-- Each claim is computed: both sides of its equation come to the same value. The longest jobs are taken by the law of files written and read.
+use mathlib.Core.Path.{_≡_, refl}
+use Prim.Native.Nat.{ℕ, _≤_, _<_}
+use native.Mathlib.Omega.{arith}
 use lib.Count.{ones}
-use Rattle.answers.specs.Answers.{if-done}
-use Rattle.answers.specs.Refusals.{first-of, job-refusals}
+use lib.ListN.{replicate, length-replicate, getD-replicate}
+use Rattle.answers.proofs.Bytes.{each-byte}
+use Rattle.answers.specs.Answers.{if-done, answered}
+use Rattle.answers.specs.Bytes.{Bytes}
+use Rattle.answers.specs.Refusals.{first-of, longest-pattern, longest-text, job-refusals}
 use Rattle.hex.specs.Hex.{is-digit, digit-value, digit, digits, all-digits, number}
 use Rattle.lines.specs.Lines.{line, lines}
 use Rattle.job.specs.Job.{first-line, job-file, edition-in, m-in, q-in, n-in, bytes-in, pattern-in, text-in, good-line, good-lines, file-refusals, file-status}
+use Rattle.job.proofs.RoundTrip.{written-read}
+use Rattle.job.specs.Promises.{Written-read}
+use Rattle.job.specs.Read.{read-status}
+use Rattle.job.specs.Write.{write-status}
 use Rattle.tables.specs.Least.{least-from, all-from}
+use Rattle.tables.specs.Prepare.{prepare-status}
 use Rattle.tables.specs.Sets.{Neg}
 use Rattle.tables.specs.Tables.{h-min, k-min, r-min, period, second-group-from, second-group, third-group-from, third-group, order, stored-order, Δ1, Δ2}
 use Rattle.steps.specs.Occurrences.{occurs, occurrences-from, all-occurrences, occurrences}
-use Rattle.steps.specs.Promises.{bound}
+use Rattle.steps.specs.Bound.{bound}
 use Rattle.steps.specs.Steps.{agreeing, align, step, alignments-from, alignments, compared, is-occurrence, comparisons-of, listed, comparisons}
+use Rattle.steps.specs.Text.{shown, span}
+use Rattle.matcher.specs.Search.{search-status}
 use Rattle.frames.specs.Frames.{with-holds, frames}
-use Rattle.ones.specs.Ones.{ones-of}
+use Rattle.ones.specs.Ones.{ones-of, count-status, count-answer}
+use Rattle.converter.specs.Convert.{convert-status}
+use Rattle.printer.specs.Printed.{report-status, refused-report}
 use Rattle.report.specs.Report.{done-report, seek-report}
-use Rattle.worked_examples.specs.Examples.{bytes, Holds, examples, All, All-hold}
+use Rattle.worked_examples.specs.Examples.{a, bytes, Holds, examples, All, All-hold}
 
 -- the first row's proof, then those of the rows below
 infixr 20 _then_
 abbrev _then_ : {A B : Type 0} → A → B → A × B
 x then y = (x, y)
 
+-- a job within the limits is taken
+taken :
+    (m q n : ℕ) → q < m → m ≤ longest-pattern → n ≤ longest-text → file-status (job-file q (replicate m a) (replicate n a)) ≡ 0
+unfolding Written-read
+taken m q n hq hm hn =
+    let w = length-replicate m a in
+    let t = length-replicate n a in
+    written-read q (replicate m a) (replicate n a) (all-a m) (all-a n) (omega arith) (omega arith) (omega arith) .taken
+  where
+    all-a : (k : ℕ) → Bytes (replicate k a)
+    all-a k = each-byte (replicate k a) (λ i l. rw (getD-replicate k i a 0 (rw length-replicate at l)) (omega arith))
+
 pub examples-hold : All-hold examples
 unfolding bytes Holds examples All All-hold
-    if-done first-of job-refusals is-digit digit-value digit digits all-digits number
-    lines first-line job-file edition-in m-in q-in n-in bytes-in pattern-in text-in good-line good-lines file-refusals file-status
+    if-done answered count-answer first-of job-refusals is-digit digit-value digit digits all-digits number
+    lines read-status write-status prepare-status search-status convert-status count-status report-status refused-report first-line job-file edition-in m-in q-in n-in bytes-in pattern-in text-in good-line good-lines file-refusals file-status
     least-from all-from Neg h-min k-min r-min period second-group-from second-group third-group-from third-group order stored-order Δ1 Δ2
-    occurs occurrences-from all-occurrences occurrences bound
+    occurs occurrences-from all-occurrences occurrences bound shown span
     agreeing align step alignments-from alignments compared is-occurrence comparisons-of listed comparisons
     with-holds frames ones ones-of line done-report seek-report
 examples-hold =
@@ -42,4 +68,11 @@ examples-hold =
     then ((refl, refl), (refl, tt))
     then ((refl, refl), (refl, tt))
     then (refl, tt)
+    then (taken 128 0 0 (omega arith) (omega arith) (omega arith), (refl, (refl, (refl, (refl, (refl, (refl, (refl, (refl, (refl, (refl, (refl, (refl, (refl, (refl, tt)))))))))))))))
+    then (taken 5 4 0 (omega arith) (omega arith) (omega arith), (refl, (refl, (refl, (refl, (refl, tt))))))
+    then (taken 1 0 16384 (omega arith) (omega arith) (omega arith), (refl, (refl, (refl, (refl, (refl, (refl, (refl, (refl, (refl, tt))))))))))
+    then (refl, (refl, (refl, (refl, (refl, (refl, (refl, (refl, (refl, (refl, (refl, (refl, (refl, (refl, tt))))))))))))))
+    then (refl, (refl, (refl, (refl, (refl, (refl, (refl, (refl, (refl, (refl, (refl, (refl, (refl, (refl, (refl, (refl, (refl, (refl, (refl, tt)))))))))))))))))))
+    then (refl, (refl, (refl, (refl, (refl, tt)))))
+    then (refl, (refl, (refl, (refl, (refl, tt)))))
     then tt

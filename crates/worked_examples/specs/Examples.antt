@@ -1,5 +1,5 @@
--- The worked examples (document 01, "Marked swatches"): the ten as rows of one table, and the common statement that covers them.
--- These are definitions.
+-- The worked examples: document 01's ten ("Marked swatches"), its edges and its orders of refusal as rows of one table, and the common
+-- statement that covers them. These are definitions.
 use mathlib.Core.List.{List, [], _∷_}
 use mathlib.Core.Path.{_≡_}
 use Prim.Native.Char.{code}
@@ -7,13 +7,22 @@ use Prim.Native.Nat.{ℕ}
 use Prim.Native.String.{String, [] as end, _∷_ as _then_}
 use lib.IntN.{ℤ, pos, negsuc}
 use lib.ListN.{length, drop, replicate}
-use Rattle.job.specs.Job.{job-file}
-use Rattle.tables.specs.Sets.{byte}
+use Rattle.answers.specs.Answers.{prepared, answered}
+use Rattle.answers.specs.declared.Answer.{Answer}
+use Rattle.job.specs.Job.{job-file, file-status}
+use Rattle.job.specs.Read.{read-status}
+use Rattle.job.specs.Write.{write-status}
+use Rattle.tables.specs.Buffers.{needed}
+use Rattle.tables.specs.Prepare.{prepare-status}
 use Rattle.tables.specs.Tables.{period, stored-order, Δ1, Δ2}
+use Rattle.tables.specs.declared.TableLengths.{TableLengths}
+use Rattle.steps.specs.Bound.{search-bound}
 use Rattle.steps.specs.Occurrences.{occurrences}
-use Rattle.steps.specs.Promises.{bound}
-use Rattle.steps.specs.Steps.{alignments, comparisons, listed}
-use Rattle.ones.specs.Ones.{ones-of}
+use Rattle.steps.specs.Steps.{alignments-in, comparisons, listed}
+use Rattle.matcher.specs.Search.{search-status, search-done}
+use Rattle.ones.specs.Ones.{ones-of, count-status, count-answer}
+use Rattle.converter.specs.Convert.{convert-status, convert-done}
+use Rattle.printer.specs.Printed.{report-status}
 use Rattle.report.specs.Report.{seek-report}
 
 -- what a row may claim of a pattern w (motif), a text t (chain) or a job file
@@ -28,11 +37,32 @@ pub data Claim : Type 0 where
   ones-are : (t : List ℕ) → (count : ℕ) → Claim
   job-file-is : (q : ℕ) → (w t : List ℕ) → (file : String) → Claim
   seek-prints : (file output : String) → Claim
+  file-gives : (file : String) → (status : ℕ) → Claim
+  job-gives : (m q n : ℕ) → (status : ℕ) → Claim
+  reading-gives : (file : String) → (pattern-len text-len : ℕ) → (status : ℕ) → Claim
+  writing-gives : (m q n file-len : ℕ) → (status : ℕ) → Claim
+  preparing-gives : (m : ℕ) → (lengths : TableLengths) → (status : ℕ) → Claim
+  searching-gives : (m n : ℕ) → (lengths : TableLengths) → (found-len : ℕ) → (status : ℕ) → Claim
+  converting-gives : (m q n : ℕ) → (lengths : TableLengths) → (found-len frames-len : ℕ) → (status : ℕ) → Claim
+  needed-are : (m : ℕ) → (lengths : TableLengths) → Claim
+  counting-gives : (n : ℕ) → (status : ℕ) → Claim
+  reporting-gives : (report-len out-len : ℕ) → (status : ℕ) → Claim
+  answers-are : (given whole : Answer) → Claim
 
 -- the bytes of what is written in quotes: each character's code
 unfoldable pub bytes : String → List ℕ
 bytes end = []
 bytes (letter then more) = code letter ∷ bytes more
+
+-- document 01's cards a, c and b
+abbrev pub a : ℕ
+a = 0x06
+
+abbrev c : ℕ
+c = 0x18
+
+abbrev b : ℕ
+b = 0x01
 
 -- what a claim says, each an equation with its definition. The occurrences (finds) are those by meaning, and the steps list the same
 unfoldable pub Holds : Claim → Type 0
@@ -41,14 +71,25 @@ Holds (order-is w entries) = stored-order w ≡ entries
 Holds (Δ2-from-2-is w entries) = drop 1 (Δ2 w) ≡ entries
 Holds (Δ1-is w c s k) = Δ1 w c s ≡ k
 Holds (occurrences-are w t positions) =
-    (occurrences w t ≡ positions) × (listed (alignments (byte t) (length t) w) ≡ positions)
+    (occurrences w t ≡ positions) × (listed (alignments-in w t) ≡ positions)
 Holds (comparisons-are w t count) = length (comparisons w t) ≡ count
-Holds (bound-is w t count) = bound (length w) (length t) (length (occurrences w t)) (period w) ≡ count
+Holds (bound-is w t count) = search-bound w t ≡ count
 Holds (ones-are t count) = ones-of t ≡ count
 Holds (job-file-is q w t file) = job-file q w t ≡ bytes file
 Holds (seek-prints file output) = seek-report (bytes file) ≡ bytes output
+Holds (file-gives file status) = file-status (bytes file) ≡ status
+Holds (job-gives m q n status) = file-status (job-file q (replicate m a) (replicate n a)) ≡ status
+Holds (reading-gives file p t status) = read-status (bytes file) p t ≡ status
+Holds (writing-gives m q n file status) = write-status m q n file ≡ status
+Holds (preparing-gives m l status) = prepare-status m l ≡ status
+Holds (searching-gives m n l found status) = search-status m n l found ≡ status
+Holds (converting-gives m q n l found frames status) = convert-status m q n l found frames ≡ status
+Holds (needed-are m l) = needed m ≡ l
+Holds (counting-gives n status) = count-status n ≡ status
+Holds (reporting-gives l out status) = report-status l out ≡ status
+Holds (answers-are given whole) = given ≡ whole
 
--- a row: its number in document 01, and what it claims
+-- a row: its number, up to 10 that of document 01, and what it claims
 pub record Example : Type 0 where
   pub number : ℕ
   pub claims : List Claim
@@ -56,15 +97,16 @@ pub record Example : Type 0 where
 abbrev row : (number : ℕ) → (claims : List Claim) → Example
 row n cs = record { number = n; claims = cs }
 
--- document 01's cards a, c and b
-abbrev a : ℕ
-a = 0x06
+-- buffers for the tables of these lengths, and of none
+abbrev room : (order delta2 delta1 : ℕ) → TableLengths
+room o d2 d1 = record { order = o; delta2 = d2; delta1 = d1 }
 
-abbrev c : ℕ
-c = 0x18
+-- an answer by its fields: the number, the finds, the looks and the holes
+abbrev answer : (status h C holes : ℕ) → Answer
+answer s h C o = record { status = s; occurrences = h; comparisons = C; ones = o }
 
-abbrev b : ℕ
-b = 0x01
+abbrev no-room : TableLengths
+no-room = room 0 0 0
 
 abbrev aacaa : List ℕ
 aacaa = a ∷ a ∷ c ∷ a ∷ a ∷ []
@@ -128,6 +170,103 @@ examples =
     ∷ row 9 (occurrences-are (a ∷ a ∷ []) (a ∷ []) [] ∷ comparisons-are (a ∷ a ∷ []) (a ∷ []) 0 ∷ [])
     -- 10. Chain FF 00: 8 holes
     ∷ row 10 (ones-are (0xFF ∷ 0x00 ∷ []) 8 ∷ [])
+    -- Edges: m 128 taken, 129 gives 4; m 0 with q 0 gives 4
+    ∷ row 11
+    (job-gives 128 0 0 0
+    ∷ file-gives "0181000000\n" 4
+    ∷ file-gives "0100000000\n" 4
+    ∷ writing-gives 128 0 0 395 0
+    ∷ writing-gives 129 0 0 398 4
+    ∷ writing-gives 0 0 0 11 4
+    ∷ preparing-gives 128 (needed 128) 0
+    ∷ preparing-gives 129 (needed 129) 4
+    ∷ preparing-gives 0 (needed 0) 4
+    ∷ searching-gives 128 0 (needed 128) 0 0
+    ∷ searching-gives 129 0 (needed 129) 0 4
+    ∷ searching-gives 0 0 (needed 0) 0 4
+    ∷ converting-gives 128 0 0 (needed 128) 0 0 0
+    ∷ converting-gives 129 0 0 (needed 129) 0 0 4
+    ∷ converting-gives 0 0 0 (needed 0) 0 0 4
+    ∷ [])
+    -- q = m - 1 taken, q = m gives 5
+    ∷ row 12
+    (job-gives 5 4 0 0
+    ∷ file-gives "0105050000\n" 5
+    ∷ writing-gives 5 4 0 26 0
+    ∷ writing-gives 5 5 0 26 5
+    ∷ converting-gives 5 4 0 (needed 5) 0 0 0
+    ∷ converting-gives 5 5 0 (needed 5) 0 0 5
+    ∷ [])
+    -- n 16,384 taken, 16,385 gives 6
+    ∷ row 13
+    (job-gives 1 0 16384 0
+    ∷ file-gives "0101004001\n" 6
+    ∷ writing-gives 1 0 16384 49166 0
+    ∷ writing-gives 1 0 16385 49169 6
+    ∷ searching-gives 1 16384 (needed 1) 16384 0
+    ∷ searching-gives 1 16385 (needed 1) 16385 6
+    ∷ converting-gives 1 0 16384 (needed 1) 16384 16384 0
+    ∷ converting-gives 1 0 16385 (needed 1) 16385 16385 6
+    ∷ counting-gives 16384 0
+    ∷ counting-gives 16385 6
+    ∷ [])
+    -- Order for a file: 1 (under 11 bytes), 2 in the first line, 3, 4, 5, 6, 1 (length), 2 in the rest, 7. Each file that is refused
+    -- meets the next condition of the order too, but for those with a wrong line end and those refused by 7
+    ∷ row 14
+    (file-gives "010G000000" 1
+    ∷ file-gives "020G000000\n" 2
+    ∷ file-gives "0101000000-" 2
+    ∷ file-gives "0200000000\n" 3
+    ∷ file-gives "0100000000\n" 4
+    ∷ file-gives "0101014001\n" 5
+    ∷ file-gives "0101004001\n" 6
+    ∷ file-gives "0101000000\n0g" 1
+    ∷ reading-gives "0101000000\n0a\n" 0 0 2
+    ∷ reading-gives "0101000000\n0A-" 0 0 2
+    ∷ reading-gives "0101000000\n0A\n" 0 0 7
+    ∷ reading-gives "0101000000\n0A\n" 1 0 0
+    ∷ reading-gives "0101000001\n0A\n0B\n" 1 0 7
+    ∷ reading-gives "0101000001\n0A\n0B\n" 1 1 0
+    ∷ [])
+    -- For a call with slices: 4, 5, 6, 7, as far as it takes these things; 7 for each buffer that is too short
+    ∷ row 15
+    (writing-gives 0 0 16385 0 4
+    ∷ writing-gives 1 1 16385 0 5
+    ∷ writing-gives 1 0 16385 0 6
+    ∷ writing-gives 1 0 0 13 7
+    ∷ preparing-gives 0 no-room 4
+    ∷ preparing-gives 1 no-room 7
+    ∷ searching-gives 0 16385 no-room 0 4
+    ∷ searching-gives 1 16385 no-room 0 6
+    ∷ searching-gives 1 1 no-room 1 7
+    ∷ searching-gives 1 1 (needed 1) 0 7
+    ∷ converting-gives 0 0 16385 no-room 0 0 4
+    ∷ converting-gives 1 1 16385 no-room 0 0 5
+    ∷ converting-gives 1 0 16385 no-room 0 0 6
+    ∷ converting-gives 1 0 1 no-room 1 1 7
+    ∷ converting-gives 1 0 1 (needed 1) 0 1 7
+    ∷ converting-gives 1 0 1 (needed 1) 1 0 7
+    ∷ seek-prints "0101010000\n" "FF05\n"
+    ∷ reporting-gives 5 4 7
+    ∷ reporting-gives 5 5 0
+    ∷ [])
+    -- Needed: m + 1 entries each for order and Δ2, 256 × m for Δ1
+    ∷ row 16
+    (needed-are 1 (room 2 2 256)
+    ∷ preparing-gives 1 (room 1 2 256) 7
+    ∷ preparing-gives 1 (room 2 1 256) 7
+    ∷ preparing-gives 1 (room 2 2 255) 7
+    ∷ preparing-gives 1 (room 2 2 256) 0
+    ∷ [])
+    -- What a call does not work out is 0: preparing none, searching h and C, converting all three, counting only the holes. Turned away, an
+    -- answer holds the refusal and zeros elsewhere
+    ∷ row 17
+    (answers-are (answered 0 prepared) (answer 0 0 0 0)
+    ∷ answers-are (answered 0 (search-done aacaa listing)) (answer 0 2 12 0)
+    ∷ answers-are (answered 0 (convert-done aacaa listing)) (answer 0 2 12 18)
+    ∷ answers-are (count-answer (0xFF ∷ 0x00 ∷ [])) (answer 0 0 0 8)
+    ∷ answers-are (answered 7 (convert-done aacaa listing)) (answer 7 0 0 0)
+    ∷ [])
     ∷ []
 
 -- each member of a list has a property

@@ -1,67 +1,68 @@
 // Writing a job file.
-ghost use mathlib.Core.List.{_++_};
 ghost use mathlib.Core.Path.{_≡_};
 ghost use Prim.Native.Nat.{_+_, _*_, _≤_};
-ghost use lib.ListN.{length, take};
-ghost use Rattle.answers.specs.Buffers.{in-front};
+ghost use lib.ListN.{length};
+ghost use Rattle.answers.specs.Buffers.{from-entry};
 ghost use Rattle.job.specs.Job.{first-line};
 ghost use Rattle.lines.specs.Lines.{lines};
 ghost use Rattle.job.specs.Write.{write-status, Write-outcome};
 use job::WriteAnswer;
 
-// The status of writing, measured before anything is written.
-fn write_status(m: usize, q: u32, n: usize, file: usize) -> u32
-    ensures { λ r. ⌜ r ≡ write-status m q n file ⌝ }
+// The status of writing a job file, decided before anything is written.
+fn write_status(m: usize, hold_offset: u32, n: usize, file_len: usize) -> u32
+    ensures { λ r. ⌜ r ≡ write-status m «hold_offset» n «file_len» ⌝ }
 {
-    let status = answers::job_status(m, q as usize, n);
+    let status = answers::job_status(m, hold_offset as usize, n);
     if status != 0 {
         return status;
     }
-    if file < 11 + 3 * m + 3 * n {
+    if file_len < 11 + 3 * m + 3 * n {
         return 7;
     }
     0
 }
 
-// Writes the first line of a job file.
-fn write_first_line(m: u32, q: u32, n: u32, out: &mut [u8])
+// Writes the first line of a job file at the front of the buffer, and returns the index after it.
+fn write_first_line(m: u32, hold_offset: u32, n: u32, out: &mut [u8]) -> usize
     requires { ⌜ 11 ≤ length (now out) ⌝ }
-    ensures { λ r. ⌜ now (out .exit) ≡ in-front (first-line m q n) (now (out .entry)) ⌝ }
+    ensures { λ r. ⌜ r ≡ 11 ⌝ }
+    ensures { λ r. ⌜ now (out .exit) ≡ from-entry 0 (first-line m «hold_offset» n) (now (out .entry)) ⌝ }
 {
-    lines::write_digits(2, 1, 0, out);
-    lines::write_digits(2, m, 2, out);
-    lines::write_digits(2, q, 4, out);
-    lines::write_line(4, n, 6, out);
+    let at = lines::write_digits(2, 1, 0, out);
+    let at = lines::write_digits(2, m, at, out);
+    let at = lines::write_digits(2, hold_offset, at, out);
+    lines::write_line(4, n, at, out)
 }
 
-// Writes a line for each byte after the first entries, as many as `at` says.
-fn write_lines(bytes: &[u8], at: usize, out: &mut [u8])
+// Writes each byte on a line of its own, the first line at index `at`, and returns the index after the last line.
+fn write_lines(bytes: &[u8], at: usize, out: &mut [u8]) -> usize
     requires { ⌜ at + 3 * length (now bytes) ≤ length (now out) ⌝ }
-    ensures { λ r. ⌜ now (out .exit) ≡ in-front (take at (now (out .entry)) ++ lines 2 (now (bytes .entry))) (now (out .entry)) ⌝ }
+    ensures { λ r. ⌜ r ≡ at + 3 * length (now (bytes .entry)) ⌝ }
+    ensures { λ r. ⌜ now (out .exit) ≡ from-entry at (lines 2 (now (bytes .entry))) (now (out .entry)) ⌝ }
 {
+    let mut next = at;
     for i in 0..bytes.len() {
-        lines::write_line(2, bytes[i] as u32, at + 3 * i, out);
+        next = lines::write_line(2, bytes[i] as u32, next, out);
     }
+    next
 }
 
 // Writes the job file of a hold offset (hold place), a pattern (motif) and a text (chain).
-pub fn write_job(hold: u32, pattern: &[u8], text: &[u8], file: &mut [u8]) -> WriteAnswer
-    ensures { λ r. ⌜ Write-outcome hold (now (pattern .entry)) (now (text .entry)) (now (file .entry)) (now (file .exit)) r ⌝ }
+pub fn write_job(hold_offset: u32, pattern: &[u8], text: &[u8], file: &mut [u8]) -> WriteAnswer
+    ensures { λ r. ⌜ Write-outcome «hold_offset» (now (pattern .entry)) (now (text .entry)) (now (file .entry)) (now (file .exit)) r ⌝ }
 {
     let m = pattern.len();
     let n = text.len();
-    let status = write_status(m, hold, n, file.len());
+    let status = write_status(m, hold_offset, n, file.len());
     if status != 0 {
         return WriteAnswer {
             answer: answers::status_only(status),
             bytes: 0,
         };
     }
-    let text_at = 11 + 3 * m;
-    let bytes = text_at + 3 * n;
-    write_first_line(m as u32, hold, n as u32, file);
-    write_lines(pattern, 11, file);
-    write_lines(text, text_at, file);
+    let pattern_at = write_first_line(m as u32, hold_offset, n as u32, file);
+    let text_at = write_lines(pattern, pattern_at, file);
+    let bytes = write_lines(text, text_at, file);
     WriteAnswer {
         answer: answers::status_only(0),
         bytes: bytes as u32,

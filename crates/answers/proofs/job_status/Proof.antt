@@ -1,32 +1,23 @@
--- `answers::job_status` meets its contract: at each return the tests on the way are those of the refusals, in their order.
+-- `answers::job_status` meets its contract: 4 and 5 are tested first, and past them 6.
 -- Assumes nothing.
-use mathlib.Core.Bool.{false}
-use mathlib.Core.Logic.{⊎-elim}
-use mathlib.Core.Path.{_≡_}
-use borrow.Author.Tests.{lt-ltb, le-ltb, le-leb, lt-leb, eq-eqb, ne-eqb}
+use mathlib.Core.Path.{sym, _∙_}
+use native.Mathlib.Omega.{arith}
+use Rattle.answers.proofs.Refusals.{first-refused, first-passed}
 use Rattle.answers.proofs.job_status.Statement.{statement}
 use Rattle.answers.proofs.job_status.Tie as tie
-use Rattle.answers.specs.Refusals.{first-of, pattern-refusal, job-refusals}
-
--- the pattern's test, where it was passed
-pattern-passed : (c : tie.Else2) → (pattern-refusal (c .before .before .args .m)) .holds ≡ false
-pattern-passed c = rw (ne-eqb _ _ (c .before .if1 .left)) (c .if2 .left)
+use Rattle.answers.specs.Refusals.{rule-refusals, job-refusals}
 
 returns : tie.Need-returns
-unfolding first-of job-refusals
-returns c = ⊎-elim (λ w. simp (eq-eqb _ _ (w .taken))) (λ w. simp (ne-eqb _ _ (w .0 .left), w .1 .taken)) (c .if1 .came)
+unfolding job-refusals
+returns c = first-refused _ _ (c .before .rule-status .ensures) (c .if1 .taken)
 
 returns-2 : tie.Need-returns-2
-unfolding first-of job-refusals
-returns-2 c = simp (pattern-passed (c .before), le-leb _ _ (c .if3 .taken))
-
-returns-3 : tie.Need-returns-3
-unfolding first-of job-refusals
-returns-3 c = simp (pattern-passed (c .before .before), lt-leb _ _ (c .before .if3 .left), lt-ltb _ _ (c .if4 .taken))
-
-returns-4 : tie.Need-returns-4
-unfolding first-of job-refusals
-returns-4 c = simp (pattern-passed (c .before .before), lt-leb _ _ (c .before .if3 .left), le-ltb _ _ (c .if4 .left))
+unfolding job-refusals
+returns-2 c =
+    let rule = c .before in
+    let args = rule .before .before .args in
+    let past = first-passed (rule-refusals (args .m) (args .hold-offset)) _ (omega arith) (rule .before .rule-status .ensures) (rule .if1 .left) in
+    c .text-status .ensures ∙ sym past
 
 pub job-status-spec : {M : Type 1} → statement M
-job-status-spec = tie.close (tie.spec returns returns-2 returns-3 returns-4)
+job-status-spec = tie.close (tie.spec (λ c κs. tt) returns (λ c κs. tt) returns-2)

@@ -1,95 +1,41 @@
--- `converter::convert` meets its contract: past the refusals the search gives the occurrences, and the holds are marked in the moves after it.
--- Assumes nothing.
-use mathlib.Core.Path.{_≡_, sym, _∙_}
-use Prim.Native.Nat.{_≤_}
-use native.Mathlib.Omega.{arith}
+-- `converter::convert` meets its contract: a refused call leaves everything, and past the refusals the frames are written by what the search finds.
+-- By the laws of what converting answers and leaves. Assumes nothing.
+use mathlib.Core.Path.{sym, _∙_}
 use borrow.Author.Needs.{needs}
-use lib.ListN.{length, take}
-use lib.Seq.{length-take-le}
-use Rattle.steps.specs.Occurrences.{occurrences}
-use Rattle.ones.proofs.Counted.{ones-counted}
-use Rattle.matcher.specs.Search.{Search-outcome-of}
-use Rattle.converter.proofs.Converted.{refused, part-found, counted, done}
-use Rattle.frames.proofs.Holds.{occurrence-inside, occurrences-few}
-use Rattle.converter.proofs.Taken.{Taken, taken}
+use lib.ListN.{length}
+use Rattle.tables.specs.Buffers.{tables, lengths}
+use Rattle.converter.proofs.Converted.{refused, frames-ready, done}
+use Rattle.converter.proofs.Taken.{status-is, Conversion-taken, conversion-taken, search-taken}
 use Rattle.converter.proofs.convert.Statement.{statement}
 use Rattle.converter.proofs.convert.Tie as tie
 
 -- the way back from a place of the code to an earlier one
-abbrev entry : tie.Else1 → tie.Start
-entry c = c .before .before .before .before .before .before .before .before
+abbrev start : tie.Else1 → tie.Start
+start c = c .before .before .before .before .before .before .before .before
 
-abbrev measured : tie.After-search → tie.Else1
-measured c = c .before .before .before .before .before
+abbrev measured : tie.After-search-within-arg4 → tie.Else1
+measured c = c .before .before .before .before
 
-abbrev searched : tie.After-write-moves-arg → tie.After-search
+abbrev searched : tie.After-write-frames-arg2 → tie.After-search-within
 searched c = c .before .before .before .before .before .before .before .before .before
 
-abbrev moved : tie.After-slice-known8 → tie.After-write-moves-arg
-moved c = c .before .before .before
-
-abbrev marked : tie.After-slice-known9 → tie.After-slice-known8
-marked c = c .before .before .before .before .before
-
--- past the refusals
-in-limits : (c : tie.Else1) →
-    let args = entry c .args in
-    Taken (length (args .pattern .now)) (args .hold) (length (args .text .now)) (length (args .order .now)) (length (args .delta2 .now))
-    (length (args .delta1 .now)) (length (args .found .now)) (length (args .frames .now))
-in-limits c = taken _ _ _ _ _ _ _ _ (sym (c .before .convert-status .ensures) ∙ c .if1 .left)
-
--- the search is not refused
-outcome : (c : tie.After-search) →
-    let args = entry (measured c) .args in
-    let last = c .search .last .1 .1 in
-    Search-outcome-of 0 (args .pattern .now) (args .text .now) (args .order .now) (last .0) (args .delta2 .now) (last .1 .0)
-    (args .delta1 .now) (last .1 .1 .0) (args .found .now) (last .1 .1 .1 .0) (c .search .result)
-outcome c = rw (in-limits (measured c) .searched) at (c .search .ensures)
-
--- as many entries as the search counts are the occurrences, and there are so many
-prefix : (c : tie.After-search) →
-    let args = entry (measured c) .args in
-    let last = c .search .last .1 .1 .1 .1 .1 .0 in
-    (take (c .search .result .occurrences) last ≡ occurrences (args .pattern .now) (args .text .now))
-    × (c .search .result .occurrences ≤ length last)
-prefix c =
-    let args = entry (measured c) .args in
-    let limits = in-limits (measured c) in
-    let few = occurrences-few (args .pattern .now) (args .text .now) (omega arith) in
-    (part-found (outcome c), omega (arith, counted (outcome c), c .search .kept))
-
 returns : tie.Need-returns
-returns c =
-    rw (c .status-only .ensures, ← c .before .before .convert-status .ensures)
-    (refused _ (c .before .if1 .taken))
+returns c = rw (c .status-only .ensures, ← status-is, ← c .before .before .status .ensures) (refused _ (c .before .if1 .taken))
 
-write-moves-requires : tie.Need-write-moves-requires
-write-moves-requires c κs = in-limits (measured (searched c)) .frames-room
-
-slice-reshare-prefix-mark-holds : tie.Need-slice-reshare-prefix-mark-holds
-slice-reshare-prefix-mark-holds c = prefix (searched (moved c)) .1
-
-slice-aggregate-mark-holds : tie.Need-slice-aggregate-mark-holds
-slice-aggregate-mark-holds c = sym (length-take-le _ _ (prefix (searched (moved (c .before))) .1))
-
-mark-holds-requires : tie.Need-mark-holds-requires
-mark-holds-requires c κs i h =
-    let moves = moved (c .before .before) in
-    let at = searched moves in
-    let args = entry (measured at) .args in
-    let limits = in-limits (measured at) in
-    let inside = occurrence-inside (args .pattern .now) (args .text .now) i (rw (prefix at .0) at h) in
-    rw (prefix at .0) (omega arith)
+-- the conversion is taken
+fit :
+    (c : tie.Else1) → let a = start c .args in let x = tables (a .order .now) (a .delta2 .now) (a .delta1 .now) in
+    Conversion-taken (length (a .pattern .now)) (a .hold-offset) (length (a .text .now)) (lengths x) (length (a .found .now))
+    (length (a .frames .now))
+fit c = conversion-taken (sym (c .before .status .ensures ∙ status-is _ _ _ _ _ _) ∙ c .if1 .left)
 
 returns-2 : tie.Need-returns-2
 returns-2 c =
-    let held = marked (c .before) in
-    let at = searched (moved held) in
-    let past = measured at in
-    let limits = in-limits past .limits in
-    rw (← past .before .convert-status .ensures, past .if1 .left)
-    (done (outcome at) (limits .hold) (rw (c .count-ones .ensures) (ones-counted _ (limits .text)))
-    (rw (← held .before .before .write-moves .ensures) (c .before .before .before .mark-holds .ensures)))
+    let written = c .before .before in
+    let at = searched (written .before) in
+    let past = measured (at .before) in
+    rw (← status-is, ← past .before .status .ensures, past .if1 .left)
+    (done (fit past) (at .search-within .ensures) (written .write-frames .ensures))
 
 pub convert-spec : {M : Type 1} → statement M
 convert-spec =
@@ -98,13 +44,8 @@ convert-spec =
     (λ c κs. tt)
     (λ c κs. tt)
     returns
-    (λ c κs. tt)
-    (λ c. search needs)
-    write-moves-requires
-    slice-reshare-prefix-mark-holds
-    slice-aggregate-mark-holds
-    mark-holds-requires
-    (λ c κs. tt)
+    (λ c κs. search-taken (fit (measured c)))
+    (λ c κs. let at = searched c in frames-ready (fit (measured (at .before))) (at .search-within .ensures))
     (λ c. search needs)
     (λ c. search needs)
     (λ c. search needs)

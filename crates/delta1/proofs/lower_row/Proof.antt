@@ -1,4 +1,4 @@
--- `lower_row` meets its contract. In front the two bytes are compared; past the front there is no byte to compare, and each entry is lowered.
+-- `lower_row` meets its contract. In front two bytes are compared; past the front there is nothing to compare, and each entry is lowered.
 -- Assumes nothing.
 use Prim.Native.Nat.{ℕ, _+_, _-_, _≤_, _<_}
 use mathlib.Core.Bool.{Bool, true}
@@ -7,22 +7,16 @@ use mathlib.Core.Path.{_≡_, refl, ap}
 use native.Mathlib.Omega.{arith}
 use borrow.Author.Tests.{le-leb, lt-leb}
 use borrow.Rule.Slice.PartMut.{midOf}
-use lib.ListN.{length, take, length-take}
-use lib.Seq.{length-take-le}
-use Rattle.delta1.proofs.Parts.{part-length, part-entry, changed-parts}
+use lib.ListN.{length, take, length-take, length-drop}
+use Rattle.delta1.proofs.Parts.{part-entry, changed-parts}
 use Rattle.delta1.specs.Rows.{lowered-if, equal-at, allows}
 use Rattle.delta1.proofs.lower_row.Statement.{statement}
 use Rattle.delta1.proofs.lower_row.Tie as tie
 
--- what is compared for the n entries of the row's front
-abbrev bytes : (v : List ℕ) (n : ℕ) → List ℕ
-bytes v n = midOf 1 (n + 1 - 1) v
-
-abbrev others : (v row : List ℕ) (s : ℕ) → List ℕ
-others v row s = midOf (s + 1) (length row - (s + 1)) v
-
+-- for the n entries of the row's front two bytes are compared, and for the others none
 module _ (v row : List ℕ) (s n : ℕ) (within : n + s + 1 ≡ length row) (room : length row ≤ length v) where
-  front-test : (i : ℕ) → i < n → equal-at (bytes v n) (others v row s) i ≡ allows v (length row) s (i + 1)
+  front-test : (i : ℕ) → i < n
+      → equal-at (midOf 1 (n + 1 - 1) v) (midOf (s + 1) (length row - (s + 1)) v) i ≡ allows v (length row) s (i + 1)
   front-test i h =
       let one-on : 1 + i ≡ i + 1 = omega arith in
       let shift-on : s + 1 + i ≡ i + 1 + s = omega arith in
@@ -37,20 +31,26 @@ module _ (v row : List ℕ) (s n : ℕ) (within : n + s + 1 ≡ length row) (roo
   past-test : (i : ℕ) → true ≡ allows v (length row) s (n + i + 1)
   past-test i = rw (le-leb (length row) (n + i + 1 + s) (omega arith))
 
+  lent : (length (midOf 1 (n + 1 - 1) v) ≡ length (take n row)) × (length (midOf (s + 1) (length row - (s + 1)) v) ≡ length (take n row))
+  lent = (simp (length-take, length-drop) (omega arith), simp (length-take, length-drop) (omega arith))
+
+-- the places of the code: where the row's front is lent, and where each part of the row is lowered; and the function's entry
+abbrev start : tie.After-lower-where-equal-arg3 → tie.Start
+start c = c .before .before .before .before .before
+
+abbrev front : tie.After-lower → tie.After-lower-where-equal
+front c = c .before .before .before .before
+
 lower-where-equal-requires : tie.Need-lower-where-equal-requires
 lower-where-equal-requires c κs =
-    let a = c .before .before .before .before .before .args in
-    let v = a .reversed .now in
+    let a = start c .args in
     let row = a .row .now in
-    let n = length row - a .shift - 1 in
-    let lent : length (take n row) ≡ n = length-take-le n row (omega arith) in
-    let first = part-length 1 (n + 1 - 1) v (omega arith) in
-    let second = part-length (a .shift + 1) (length row - (a .shift + 1)) v (omega arith) in
-    (omega arith, omega arith)
+    lent (a .reversed .now) row (a .shift) (length row - a .shift - 1) (omega arith) (omega arith)
 
 returns : tie.Need-returns
 returns c =
-    let a = c .before .before .before .before .before .before .before .before .before .before .before .before .args in
+    let rest = c .before .before in
+    let a = start (front rest .before) .args in
     let v = a .reversed .now in
     let row = a .row .now in
     let n = length row - a .shift - 1 in
@@ -58,8 +58,8 @@ returns c =
     changed-parts _ _ _ n _ _ _ _
     (omega arith)
     refl
-    (c .before .before .before .before .before .before .lower-where-equal .ensures)
-    (c .before .before .lower .ensures)
+    (front rest .lower-where-equal .ensures)
+    (rest .lower .ensures)
     (λ i e h. ap (lowered e) (front-test v row (a .shift) n (omega arith) (omega arith) i h))
     (λ i e. ap (lowered e) (past-test v row (a .shift) n (omega arith) (omega arith) i))
 

@@ -11,7 +11,8 @@ use Rattle.delta1.proofs.lower_where_equal.Statement.{statement}
 use Rattle.delta1.proofs.lower_where_equal.Tie as tie
 
 abbrev Inv-loop : tie.InvT-loop
-Inv-loop bytes others shift row₀ i₀ i-end row i = (i ≤ length row₀) × Changed (λ x e. lowered-if (equal-at bytes others x) shift e) i row₀ row
+Inv-loop bytes others shift row₀ i₀ i-end row i =
+    (i ≤ length row₀) × Changed (λ x e. lowered-if (equal-at bytes others x) shift e) i row₀ row
 
 abbrev μ-loop : tie.MeasureT-loop
 μ-loop bytes others shift row₀ i₀ i-end row i = length row₀ - i

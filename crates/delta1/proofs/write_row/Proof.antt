@@ -1,4 +1,4 @@
--- `write_row` meets its contract. The loop's invariant: the positions at `at` and above, one up, have lowered the row.
+-- `write_row` meets its contract. The loop's invariant: the positions from `at` on have lowered the row.
 -- Assumes nothing.
 use Prim.Native.Nat.{_+_, _-_, _<_}
 use mathlib.Core.Path.{_≡_, sym}
@@ -17,37 +17,34 @@ Inv-loop pattern reversed last position row₀ at₀ row at = Row-settled patter
 abbrev μ-loop : tie.MeasureT-loop
 μ-loop pattern reversed last position row₀ at₀ row at = at
 
+-- the places of the code: the loop's test, and where a turn has lowered the row; and the function's entry
+abbrev test : tie.After-lower-row Inv-loop μ-loop → tie.At-loop Inv-loop μ-loop
+test c = c .before .before .before
+
+abbrev start : tie.At-loop Inv-loop μ-loop → tie.Start Inv-loop μ-loop
+start c = c .before .before .before .before .before
+
 -- the next position down is the last one below this one that has the byte
 next-link :
-    (c : tie.After-shared-slice-known4 Inv-loop μ-loop) →
-    let a = c .before .before .before .before .before .before .before .before .before .before .before .args in
-    let at = c .before .before .before .before .before .before .loop .at in
-    (getD (a .last .now) at 0 ≡ last-below (a .pattern .now) (byte (a .pattern .now) (a .position)) (at - 1)) × (getD (a .last .now) at 0 < at)
+    (c : tie.After-lower-row Inv-loop μ-loop) →
+    let a = start (test c) .args in let at = test c .loop .at in let next = getD (a .last .now) at 0 in
+    (next ≡ last-below (a .pattern .now) (byte (a .pattern .now) (a .position)) (at - 1)) × (next < at)
 next-link c =
-    let start = c .before .before .before .before .before .before .before .before .before .before .before in
-    let w = start .args .pattern .now in
-    let loop = c .before .before .before .before .before .before .loop in
-    let j = loop .at - 1 in
-    let one-up : j + 1 ≡ loop .at = omega arith in
-    let link : getD (start .args .last .now) (loop .at) 0 ≡ last-below w (byte w (start .args .position)) j =
-    rw (one-up, loop .inv .next-has j (sym one-up)) at (start .pre .linked j (omega arith)) in
-    (link, omega (arith, last-within w (byte w (start .args .position)) j))
-
-loop-holds : tie.Need-loop-holds Inv-loop μ-loop
-loop-holds c =
-    let start = c .before .before .before .before in
-    row-first _ _ _ _ (start .pre .within) (start .pre .entries) (start .pre .is-last) (start .pre .begun)
+    let at = test c .loop in
+    let a = start (test c) .args in
+    let w = a .pattern .now in
+    let j = at .at - 1 in
+    let one-up : j + 1 ≡ at .at = omega arith in
+    let link : getD (a .last .now) (at .at) 0 ≡ last-below w (byte w (a .position)) j =
+    rw (one-up, at .inv .next-has j (sym one-up)) at (start (test c) .pre .linked j (omega arith)) in
+    (link, omega (arith, last-within w (byte w (a .position)) j))
 
 loop-again : tie.Need-loop-again Inv-loop μ-loop
 loop-again c =
-    let start = c .before .before .before .before .before .before .before .before .before .before .before in
-    let loop = c .before .before .before .before .before .before .loop in
-    rw (next-link c .0)
-    (row-next _ (start .args .reversed .now) _ (loop .at) _ _
-    (start .pre .is-reversed)
-    (omega arith)
-    (loop .inv)
-    (c .before .before .before .lower-row .ensures))
+    let lowered = c .before .before .before in
+    let at = test lowered in
+    rw (next-link lowered .0)
+    (row-next (start at .args .reversed .now) (at .loop .inv) (lowered .lower-row .ensures) (start at .pre .is-reversed) (omega arith))
 
 pub write-row-spec : {M : Type 1} → statement M
 write-row-spec =
@@ -56,12 +53,12 @@ write-row-spec =
     Inv-loop
     μ-loop
     (λ c. omega arith)
-    loop-holds
+    (λ c. let b = c .before .before .before .before .pre in row-first (b .within) (b .entries) (b .is-last) (b .begun))
     (λ c. omega arith)
     (λ c κs. omega arith)
     (λ c. omega arith)
-    (λ c. omega (arith, next-link c))
-    (λ c. omega (arith, next-link c))
+    (λ c. omega (arith, next-link (c .before .before .before)))
+    (λ c. omega (arith, next-link (c .before .before .before)))
     loop-again
     (λ c. omega arith)
-    (λ c. let done : c .before .loop .at ≡ 0 = omega arith in row-right _ _ _ (rw done at (c .before .loop .inv))))
+    (λ c. let done : c .before .loop .at ≡ 0 = omega arith in row-right (rw done at (c .before .loop .inv))))

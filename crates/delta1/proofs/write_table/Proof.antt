@@ -9,11 +9,8 @@ use Rattle.delta1.proofs.write_table.Tie as tie
 
 link-requires : tie.Need-link-requires
 link-requires c κs =
-    let w = c .before .before .before .before .before .before .before .before .before .before .before .args .pattern .now in
-    let done = c .before .before .before .before .fill in (
-      omega arith,
-      filled-ends w (done .last .0) (omega arith) (λ i h. done .ensures .changed i (omega arith)),
-    )
+    let done = c .before .before .before .before .fill .ensures in
+    (omega arith, filled-ends _ _ (omega arith) (λ i h. done .changed i (omega arith)))
 
 pub write-table-spec : {M : Type 1} → statement M
 write-table-spec =

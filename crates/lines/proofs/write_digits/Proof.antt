@@ -1,12 +1,12 @@
 -- `lines::write_digits` meets its contract. The loop's invariant: the digits passed, the number's last ones, stand where they belong.
 -- The measure is how many digits are left. Assumes nothing.
-use mathlib.Core.List.{List, [], _∷_, _++_, append-assoc}
+use mathlib.Core.List.{List, [], _∷_}
 use mathlib.Core.Path.{_≡_, refl}
-use Prim.Native.Nat.{ℕ, suc, _+_, _-_, _/_, _%_, _^_, _≤_, _<_}
+use Prim.Native.Nat.{ℕ, suc, _+_, _-_, _/_, _%_, _^_, _<_}
 use native.Mathlib.Omega.{arith}
-use lib.ListN.{length, take, set, length-set, length-append}
-use lib.Seq.{sets, set-comm, length-take-le}
-use Rattle.answers.proofs.Fronts.{in-front-sets}
+use lib.ListN.{length, set, length-set}
+use lib.Seq.{sets, set-comm}
+use Rattle.answers.proofs.Fronts.{from-entry-sets}
 use Rattle.hex.proofs.Numbers.{length-digits}
 use Rattle.hex.specs.Hex.{digit, digits}
 use Rattle.lines.proofs.Lines.{digit-before, places-above}
@@ -63,7 +63,8 @@ returns c =
     let (done, _, _, _, stores) = head .loop .inv in
     let all : done ≡ args .count = omega arith in
     let none : args .at + head .loop .left ≡ args .at = omega arith in
-    rw (rw (all, none) at stores) (in-front-sets (digits (args .count) (args .number)) (args .out .now) (args .at) (rw length-digits (omega arith)))
+    let number = digits (args .count) (args .number) in
+    (refl, rw (rw (all, none) at stores) (from-entry-sets (args .at) number (args .out .now) (rw length-digits (omega arith))))
 
 pub write-digits-spec : {M : Type 1} → statement M
 write-digits-spec =
@@ -79,5 +80,6 @@ write-digits-spec =
     (λ c. omega arith)
     (λ c. omega arith)
     loop-again
+    (λ c. omega arith)
     (λ c. omega arith)
     returns)

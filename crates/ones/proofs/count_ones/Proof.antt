@@ -1,20 +1,25 @@
--- `ones::count_ones` meets its contract: the test is that of the refusal, and the sum is `ones_of`'s.
+-- `ones::count_ones` meets its contract: past the refusal the sum is `ones_of`'s.
 -- Assumes nothing.
-use borrow.Author.Needs.{needs}
-use borrow.Author.Tests.{lt-ltb, le-ltb}
-use Rattle.answers.specs.Answers.{if-done}
-use Rattle.answers.specs.Refusals.{first-of}
+use mathlib.Core.Path.{sym, _∙_}
+use Rattle.answers.proofs.Answered.{refused-answer}
+use Rattle.answers.proofs.Refusals.{text-within}
+use Rattle.answers.specs.Answers.{if-done, answered}
 use Rattle.ones.proofs.count_ones.Statement.{statement}
 use Rattle.ones.proofs.count_ones.Tie as tie
 use Rattle.ones.specs.Ones.{count-status, count-answer}
 
 returns : tie.Need-returns
-unfolding count-answer count-status first-of if-done
-returns c = simp (c .status-only .ensures, lt-ltb _ _ (c .before .if1 .taken))
+unfolding count-answer count-status
+returns c = rw (c .status-only .ensures, ← c .before .before .text-status .ensures) (refused-answer _ _ (c .before .if1 .taken))
+
+ones-of-requires : tie.Need-ones-of-requires
+ones-of-requires c κs = text-within _ (sym (c .before .text-status .ensures) ∙ c .if1 .left)
 
 returns-2 : tie.Need-returns-2
-unfolding count-answer count-status first-of if-done
-returns-2 c = simp (le-ltb _ _ (c .before .if1 .left), c .ones-of .ensures)
+unfolding count-answer count-status if-done answered
+returns-2 c =
+    let past = c .before .before in
+    rw (c .counted .ensures, c .before .ones-of .ensures, ← past .before .text-status .ensures, past .if1 .left)
 
 pub count-ones-spec : {M : Type 1} → statement M
-count-ones-spec = tie.close (tie.spec (λ c κs. search needs) returns (λ c κs. search needs) returns-2)
+count-ones-spec = tie.close (tie.spec (λ c κs. tt) (λ c κs. tt) returns ones-of-requires (λ c κs. tt) returns-2)

@@ -12,27 +12,27 @@ use Rattle.order.proofs.write_order_and_delta2.Statement.{statement}
 use Rattle.order.proofs.write_order_and_delta2.Tie as tie
 use Rattle.order.specs.Worked.{Order-stored}
 use Rattle.tables.proofs.Order.{stored-order-length}
-use Rattle.tables.specs.Prepare.{Taken}
+use Rattle.tables.specs.Buffers.{Pattern-taken}
 use Rattle.tables.specs.Tables.{stored-order}
 
-in-buffer : {w : List ℕ} {order' : List ℤ} → Taken w → (order : List ℤ) → order' ≡ in-front (stored-order w) order → Order-stored w order'
+in-buffer :
+    {w : List ℕ} {order' : List ℤ} → Pattern-taken w → (order : List ℤ) → order' ≡ in-front (stored-order w) order → Order-stored w order'
 in-buffer {w} taken order e =
     record { taken = taken; stored = rw e (in-front-take (stored-order w) order (length w + 1) (stored-order-length w (taken .some))) }
 
+-- where the last call is made, the order is written
+abbrev ordered : tie.After-write-delta2-arg2 → tie.After-write-order
+ordered c = c .before .before .before .before .before
+
 write-delta2-requires : tie.Need-write-delta2-requires
 write-delta2-requires c κs =
-    let ordered = c .before .before .before .before .before in
-    let periods = ordered .before .before .before .before in
+    let periods = ordered c .before .before .before .before in
     let reached = periods .before .before .before in
-    let given = reached .before .before .before .before .before .before .before .pre in (
-      in-buffer (given .0) _ (ordered .write-order .ensures),
+    let found = reached .before .before .before in
+    let given = found .before .before .before .before .pre in (
+      in-buffer (given .0) _ (ordered c .write-order .ensures),
       (reached .k-min-table .ensures, (periods .r-min-table .ensures, given .1 .1)),
     )
-
-returns : tie.Need-returns
-returns c =
-    let shifts = c .before .before in
-    (shifts .before .before .before .before .before .before .write-order .ensures, shifts .write-delta2 .ensures)
 
 pub write-order-and-delta2-spec : {M : Type 1} → statement M
 write-order-and-delta2-spec =
@@ -45,4 +45,4 @@ write-order-and-delta2-spec =
     write-delta2-requires
     (λ c. search needs)
     (λ c. search needs)
-    returns)
+    (λ c. let shifts = c .before .before in (ordered (shifts .before) .write-order .ensures, shifts .write-delta2 .ensures)))

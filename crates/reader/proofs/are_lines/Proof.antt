@@ -1,4 +1,4 @@
--- `reader::are_lines` meets its contract. The loop's invariant: all lines are good just where each line passed was counted and the rest are.
+-- `reader::are_lines` meets its contract. The loop's invariant: all lines are good just if each line passed was counted and the rest are.
 -- The measure is how many lines are left. Assumes nothing.
 use mathlib.Core.Bool.{true, false, _&&_, and-false, and-true}
 use mathlib.Core.List.{List}
@@ -34,12 +34,13 @@ module _ (file : List ℕ) (count from i good : ℕ) (h : i < count) (few : good
       → good-lines count from file ≡ eqb good (i + 1) && good-lines (count - (i + 1)) (from + 3 * (i + 1)) file
   passed l = e ∙ rw (lines-from count i from file h, l, and-false, ne-eqb good (i + 1) (omega arith))
 
-loop-holds : tie.Need-loop-holds Inv-loop μ-loop
-loop-holds c = (omega arith, omega arith, rw (sub-zero, add-zero))
+-- the place of a turn's test, from where its line is tested
+abbrev test : tie.After-is-line Inv-loop μ-loop → tie.At-loop Inv-loop μ-loop
+test c = c .before .before .before .before .before
 
 loop-again : tie.Need-loop-again Inv-loop μ-loop
 loop-again c =
-    let at = c .before .before .before .before .before .before in
+    let at = test (c .before) in
     let args = at .before .before .args in
     let line = line-bytes (args .from + 3 * at .loop .i) (args .file .now) ∙ sym (c .before .is-line .ensures) in
     let inv = at .loop .inv in
@@ -62,7 +63,7 @@ are-lines-spec =
     (tie.spec
     Inv-loop
     μ-loop
-    loop-holds
+    (λ c. (omega arith, omega arith, rw (sub-zero, add-zero)))
     (λ c. omega arith)
     (λ c. omega arith)
     (λ c. omega arith)

@@ -3,7 +3,8 @@
 use mathlib.Core.Bool.{and-false}
 use native.Mathlib.Omega.{arith}
 use borrow.Author.Tests.{eq-eqb, ne-eqb}
-use Rattle.reader.proofs.Reading.{first-line-pairs, first-refused, first-good, fields-read, pair-refused, pair-read}
+use Rattle.hex.proofs.Parse.{value-read}
+use Rattle.reader.proofs.Reading.{first-line-pairs, first-refused, first-good, fields-read, pair-refused}
 use borrow.Author.Needs.{needs}
 use Rattle.job.specs.Job.{good-line}
 use Rattle.reader.proofs.first_line.Statement.{statement}
@@ -18,14 +19,14 @@ returns-7 : tie.Need-returns-7
 returns-7 c =
     let low = c .before .before .before in
     let high = low .before .before .before .before in
-    let q = high .before .before .before .before in
-    let m = q .before .before .before .before in
+    let hold-offset = high .before .before .before .before in
+    let m = hold-offset .before .before .before .before in
     let edition = m .before .before .before .before in
-    let (edition-good, edition-is) = pair-read _ _ _ (edition .before .before .pair-at .ensures) _ (edition .edition .given .1) in
-    let (m-good, m-is) = pair-read _ _ _ (m .before .before .pair-at2 .ensures) _ (m .m .given .1) in
-    let (q-good, q-is) = pair-read _ _ _ (q .before .before .pair-at3 .ensures) _ (q .q .given .1) in
-    let (high-good, high-is) = pair-read _ _ _ (high .before .before .pair-at4 .ensures) _ (high .high .given .1) in
-    let (low-good, low-is) = pair-read _ _ _ (low .before .before .pair-at5 .ensures) _ (low .low .given .1) in
+    let (edition-good, edition-is) = value-read _ _ _ (edition .before .before .pair-at .ensures) _ (edition .edition .given .1) in
+    let (m-good, m-is) = value-read _ _ _ (m .before .before .pair-at2 .ensures) _ (m .m .given .1) in
+    let (q-good, q-is) = value-read _ _ _ (hold-offset .before .before .pair-at3 .ensures) _ (hold-offset .hold-offset .given .1) in
+    let (high-good, high-is) = value-read _ _ _ (high .before .before .pair-at4 .ensures) _ (high .high .given .1) in
+    let (low-good, low-is) = value-read _ _ _ (low .before .before .pair-at5 .ensures) _ (low .low .given .1) in
     first-good _ _
     (rw (first-line-pairs, edition-good, m-good, q-good, high-good, low-good, eq-eqb _ _ (c .if1 .left)))
     (fields-read _ _ _ _ _ _ edition-is m-is q-is high-is low-is)

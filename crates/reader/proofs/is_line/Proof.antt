@@ -1,12 +1,12 @@
 -- `reader::is_line` meets its contract: two digits and the line end.
 -- Assumes nothing.
 use borrow.Author.Needs.{needs}
-use Rattle.hex.proofs.Parse.{value-good, refused-bad}
+use Rattle.hex.proofs.Parse.{value-read, refused-bad}
 use Rattle.reader.proofs.is_line.Statement.{statement}
 use Rattle.reader.proofs.is_line.Tie as tie
 
 returns : tie.Need-returns
-returns c = rw (value-good _ _ _ (c .before .before .pair .ensures) _ (c .enum-told .given .1))
+returns c = rw (value-read _ _ _ (c .before .before .pair .ensures) _ (c .enum-told .given .1) .0)
 
 returns-2 : tie.Need-returns-2
 returns-2 c = rw (refused-bad _ _ _ (c .before .before .pair .ensures) (c .enum-told2 .given .1))

@@ -1,33 +1,32 @@
 -- `reader::pair` meets its contract: each digit is a value or refused, and the two together are the pair.
 -- Assumes nothing.
 use mathlib.Core.Bool.{and-false}
+use Prim.Native.Nat.{_<_}
 use native.Mathlib.Omega.{arith}
-use Rattle.hex.proofs.Parse.{refused, taken, refused-bad, value-good, value-is, digit-below}
+use Rattle.hex.proofs.Parse.{refused, taken, refused-bad, value-read, digit-below}
 use borrow.Author.Needs.{needs}
 use Rattle.reader.proofs.pair.Statement.{statement}
 use Rattle.reader.proofs.pair.Tie as tie
 
-returns : tie.Need-returns
-returns c = refused _ _ (rw (refused-bad _ _ _ (c .before .before .digit-value .ensures) (c .enum-told .given .1)))
+-- the place where the high digit's value is known, from the place where the low one's is too
+abbrev high : tie.After-ones → tie.After-sixteens
+high c = c .before .before .before .before
 
-returns-2 : tie.Need-returns-2
-returns-2 c = refused _ _ (rw (refused-bad _ _ _ (c .before .before .digit-value2 .ensures) (c .enum-told2 .given .1), and-false))
-
-mul-t7 : tie.Need-mul-t7
-mul-t7 c = omega (arith, digit-below _ _ (c .before .before .before .before .before .before .before .digit-value .ensures) _ (c .before .before .before .before .before .sixteens .given .1))
-
-add-t8 : tie.Need-add-t8
-add-t8 c = omega (arith, digit-below _ _ (c .before .before .before .before .before .before .before .digit-value .ensures) _ (c .before .before .before .before .before .sixteens .given .1), digit-below _ _ (c .before .before .before .digit-value2 .ensures) _ (c .before .ones .given .1))
+-- each value is below 16
+small : (c : tie.After-ones) → (high c .sixteens .given .0 .0 < 16) × (c .ones .given .0 .0 < 16)
+small c =
+    let d = high c in (
+      digit-below _ _ (d .before .before .digit-value .ensures) _ (d .sixteens .given .1),
+      digit-below _ _ (c .before .before .digit-value2 .ensures) _ (c .ones .given .1),
+    )
 
 returns-3 : tie.Need-returns-3
 returns-3 c =
-    let high-read = c .before .before .before .before .before .before .before .digit-value .ensures in
-    let high-is = c .before .before .before .before .before .sixteens .given .1 in
-    let low-read = c .before .before .before .digit-value2 .ensures in
-    let low-is = c .before .ones .given .1 in
-    taken _ _ _
-    (rw (value-good _ _ _ high-read _ high-is, value-good _ _ _ low-read _ low-is))
-    (rw (value-is _ _ _ high-read _ high-is, value-is _ _ _ low-read _ low-is))
+    let low = c .before in
+    let d = high low in
+    let (high-good, high-is) = value-read _ _ _ (d .before .before .digit-value .ensures) _ (d .sixteens .given .1) in
+    let (low-good, low-is) = value-read _ _ _ (low .before .before .digit-value2 .ensures) _ (low .ones .given .1) in
+    taken _ _ _ (rw (high-good, low-good)) (omega arith)
 
 pub pair-spec : {M : Type 1} → statement M
 pair-spec =
@@ -36,11 +35,11 @@ pair-spec =
     (λ c κs. search needs)
     (λ c. search needs)
     (λ c. search needs)
-    returns
+    (λ c. refused _ _ (rw (refused-bad _ _ _ (c .before .before .digit-value .ensures) (c .enum-told .given .1))))
     (λ c κs. search needs)
     (λ c. search needs)
     (λ c. search needs)
-    returns-2
-    mul-t7
-    add-t8
+    (λ c. refused _ _ (rw (refused-bad _ _ _ (c .before .before .digit-value2 .ensures) (c .enum-told2 .given .1), and-false)))
+    (λ c. omega (arith, small (c .before)))
+    (λ c. omega (arith, small (c .before)))
     returns-3)

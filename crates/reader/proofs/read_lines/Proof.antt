@@ -1,90 +1,68 @@
--- `reader::read_lines` meets its contract. The loop's invariant: the bytes of the lines passed stand in front of the buffer.
+-- `reader::read_lines` meets its contract. The loop's invariant: the bytes of the lines from the i-th on are left to be written.
 -- The measure is how much of the buffer is left. Assumes nothing.
 use mathlib.Core.Bool.{true}
-use mathlib.Core.List.{List, [], _∷_, _++_, append-nil}
-use mathlib.Core.Path.{_≡_, refl, sym, _∙_}
-use Prim.Native.Nat.{ℕ, _+_, _*_, _-_, _≤_, _<_}
-use native.Mathlib.Numerals.{add-one}
+use mathlib.Core.Path.{_≡_, _∙_}
+use Prim.Native.Nat.{_+_, _*_, _-_, _≤_}
+use native.Mathlib.Nat.{add-zero, sub-zero}
 use native.Mathlib.Omega.{arith}
-use lib.ListN.{length, length-set, drop, getD, set}
-use Rattle.answers.proofs.Fronts.{in-front-store, in-front-whole}
-use Rattle.answers.specs.Buffers.{in-front}
-use Rattle.hex.proofs.Digits.{value-below}
+use lib.ListN.{length}
+use Rattle.answers.proofs.Fronts.{in-front-whole}
+use Rattle.answers.proofs.Partly.{put-front, Partly-written, none-written, kept-length, one-more, all-written}
+use Rattle.hex.proofs.Digits.{digit-from, value-below}
 use Rattle.hex.proofs.Pairs.{pair-number, high-digit, low-digit}
 use Rattle.job.proofs.Lengths.{length-bytes}
-use Rattle.reader.proofs.Reading.{bytes-more, line-of, line-digits}
-use Rattle.hex.specs.Hex.{is-digit, digit-value, all-digits}
-use Rattle.job.specs.Job.{good-lines, bytes-in}
+use Rattle.reader.proofs.Reading.{bytes-from, line-digits}
+use Rattle.hex.specs.Hex.{all-digits}
+use Rattle.job.specs.Job.{bytes-in}
 use Rattle.reader.proofs.read_lines.Statement.{statement}
 use Rattle.reader.proofs.read_lines.Tie as tie
 
 abbrev Inv-loop : tie.InvT-loop
 Inv-loop file from out₀ i₀ i-end out i =
-    (i ≤ length out₀) × (length out ≡ length out₀) × (out ≡ in-front (bytes-in i from file) out₀)
+    let n = length out₀ in
+    (i ≤ n) × Partly-written 0 out₀ out (bytes-in n from file) (bytes-in (n - i) (from + 3 * i) file) i
 
 abbrev μ-loop : tie.MeasureT-loop
 μ-loop file from out₀ i₀ i-end out i = length out₀ - i
 
--- the digits of the i-th line
-digits-of : (file : List ℕ) (n from i : ℕ) → good-lines n from file ≡ true → i < n → all-digits 2 (from + 3 * i) file ≡ true
-digits-of file n from i e h = line-digits (from + 3 * i) file (line-of n from file e i h)
+-- the function's entry, from the place of the loop's test
+abbrev start : tie.At-loop Inv-loop μ-loop → tie.Start Inv-loop μ-loop
+start c = c .before .before .before
 
--- the value of a digit that was read is below 16
-below : (b v : ℕ) → is-digit b ≡ true → v ≡ digit-value b → v < 16
-below b v d e = rw e (value-below b d)
+-- the line of a turn has two digits
+line :
+    (c : tie.In-loop Inv-loop μ-loop) → let a = start (c .before) .args in
+    all-digits 2 (a .from + 3 * c .before .loop .i) (a .file .now) ≡ true
+line c = line-digits _ _ _ (start (c .before) .pre .1) (c .before .loop .i) (omega arith)
 
--- a turn: the i-th line's number is stored next to the bytes in front
-turn : (file out₀ out : List ℕ) (from i high low : ℕ)
-    → i < length out₀
-    → out ≡ in-front (bytes-in i from file) out₀
-    → high ≡ digit-value (getD file (from + 3 * i) 0)
-    → low ≡ digit-value (getD file (from + 3 * i + 1) 0)
-    → set out i (high * 16 + low) ≡ in-front (bytes-in (i + 1) from file) out₀
-turn file out₀ out from i high low h e p q =
-    rw (e, p, q, ← pair-number, add-one, bytes-more) (in-front-store (bytes-in i from file) out₀ i _ (length-bytes i from file) h)
+-- the buffer has room for all, and keeps its length
+room :
+    (c : tie.At-loop Inv-loop μ-loop) → let a = start c .args in let n = length (a .out .now) in
+    0 + length (bytes-in n (a .from) (a .file .now)) ≤ n
+room c = rw length-bytes (omega arith)
 
-loop-holds : tie.Need-loop-holds Inv-loop μ-loop
-unfolding in-front bytes-in
-loop-holds c = (omega arith, refl, refl)
-
-value-of-requires : tie.Need-value-of-requires Inv-loop μ-loop
-value-of-requires c κs =
-    let at = c .before .before in
-    high-digit _ _ (digits-of _ _ _ (at .loop .i) (at .before .before .before .pre .1) (omega arith))
-
-mul-out : tie.Need-mul-out Inv-loop μ-loop
-mul-out c =
-    let at = c .before .before .before in
-    omega (arith, below _ _ (high-digit _ _ (digits-of _ _ _ (at .loop .i) (at .before .before .before .pre .1) (omega arith))) (c .value-of .ensures))
-
-value-of-requires-2 : tie.Need-value-of-requires-2 Inv-loop μ-loop
-value-of-requires-2 c κs =
-    let at = c .before .before .before .before in
-    low-digit _ _ (digits-of _ _ _ (at .loop .i) (at .before .before .before .pre .1) (omega arith))
+same-size : (c : tie.At-loop Inv-loop μ-loop) → length (c .loop .out) ≡ length (start c .args .out .now)
+same-size c = kept-length 0 _ (c .loop .inv .1) (room c)
 
 add-out : tie.Need-add-out Inv-loop μ-loop
 add-out c =
-    let at = c .before .before .before .before .before in
-    let digits = digits-of _ _ _ (at .loop .i) (at .before .before .before .pre .1) (omega arith) in
-    omega (arith, below _ _ (high-digit _ _ digits) (c .before .before .value-of .ensures), below _ _ (low-digit _ _ digits) (c .value-of2 .ensures))
+    let digits = line (c .before .before .before .before) in
+    omega (arith, value-below _ (high-digit _ _ digits), value-below _ (low-digit _ _ digits))
 
 loop-again : tie.Need-loop-again Inv-loop μ-loop
 loop-again c =
-    let at = c .before .before .before .before .before in (
-      omega arith,
-      simp length-set (omega arith),
-      turn _ _ _ _ (at .loop .i) _ _ (omega arith) (at .loop .inv .2) (c .before .before .value-of .ensures) (c .value-of2 .ensures),
-    )
-
-same-length : tie.Need-same-length Inv-loop μ-loop
-same-length c = c .before .loop .inv .1
+    let first = c .before .before in
+    let at = first .before .before .before in
+    let a = start at .args in
+    let due = rw (bytes-from (length (a .out .now)) (at .loop .i) (a .from) (a .file .now) (omega arith)) at (at .loop .inv .1) in
+    (omega arith, rw (first .value-of .ensures, c .value-of2 .ensures, ← pair-number) (one-more 0 _ due (room at)))
 
 returns : tie.Need-returns Inv-loop μ-loop
+unfolding bytes-in
 returns c =
     let at = c .before in
-    let out₀ = at .before .before .before .args .out .now in
-    let all : at .loop .i ≡ length out₀ = omega arith in
-    rw all at (at .loop .inv .2) ∙ in-front-whole _ out₀ (length-bytes (length out₀) _ _)
+    let none : length (start at .args .out .now) - at .loop .i ≡ 0 = omega arith in
+    put-front (all-written 0 _ (rw none at (at .loop .inv .1))) ∙ in-front-whole _ _ (length-bytes _ _ _)
 
 pub read-lines-spec : {M : Type 1} → statement M
 read-lines-spec =
@@ -92,19 +70,19 @@ read-lines-spec =
     (tie.spec
     Inv-loop
     μ-loop
-    loop-holds
+    (λ c. (omega arith, rw (sub-zero, add-zero) (none-written 0 _ _)))
     (λ c. omega arith)
     (λ c. omega arith)
     (λ c. omega arith)
-    value-of-requires
-    mul-out
+    (λ c κs. digit-from _ (high-digit _ _ (line (c .before))))
+    (λ c. omega (arith, value-below _ (high-digit _ _ (line (c .before .before)))))
     (λ c. omega arith)
     (λ c. omega arith)
-    value-of-requires-2
+    (λ c κs. digit-from _ (low-digit _ _ (line (c .before .before .before))))
     add-out
-    (λ c. omega arith)
-    (λ c. omega arith)
+    (λ c. omega (arith, same-size (c .before .before .before .before .before)))
+    (λ c. omega (arith, same-size (c .before .before .before .before .before)))
     (λ c. omega arith)
     loop-again
-    same-length
+    (λ c. same-size (c .before))
     returns)

@@ -1,17 +1,31 @@
 -- `reader::status_of` meets its contract: past the first line the refusals go by its fields, and each test that was passed takes one off.
 -- Assumes nothing.
-use mathlib.Core.List.{[], _∷_}
+use mathlib.Core.List.{List, [], _∷_}
 use mathlib.Core.Logic.{⊎-elim}
 use mathlib.Core.Path.{_≡_, sym, _∙_}
 use native.Mathlib.Omega.{arith}
 use borrow.Author.Needs.{needs}
 use borrow.Author.Tests.{lt-ltb, le-ltb, eq-eqb, ne-eqb, not-true, not-false}
 use Rattle.answers.proofs.Refusals.{Within-limits, job-refused, job-within, job-past}
-use Rattle.answers.specs.Refusals.{first-of, buffer-refusal}
+use Rattle.answers.specs.Refusals.{Refusal, first-of, buffer-refusal}
 use Rattle.reader.proofs.Reading.{size-refusals, other-edition, edition-read}
 use Rattle.reader.proofs.status_of.Statement.{statement}
 use Rattle.reader.proofs.status_of.Tie as tie
 use Rattle.job.specs.Read.{read-status}
+
+-- the places of the code: past the edition, past 4, 5 and 6, and past the lines; and the function's entry
+abbrev start : tie.Else1 → tie.Start
+start c = c .before .before .before
+
+abbrev limits-start : tie.Else2 → tie.Start
+limits-start c = start (c .before .before)
+
+abbrev lines-start : tie.Else4 → tie.Start
+lines-start c = limits-start (c .before .before .before)
+
+-- the status is that of the refusals that are left
+abbrev Left : tie.Start → List Refusal → Type 0
+Left c rs = let a = c .args in read-status (a .file .now) (a .pattern-len) (a .text-len) ≡ first-of rs
 
 returns : tie.Need-returns
 returns c = let start = c .before .before .before in sym (other-edition _ (start .args .fields) _ _ (start .pre) (c .if1 .taken))
@@ -19,21 +33,18 @@ returns c = let start = c .before .before .before in sym (other-edition _ (start
 returns-2 : tie.Need-returns-2
 returns-2 c =
     let edition = c .before .before in
-    let start = edition .before .before .before in
-    rw (edition-read _ (start .args .fields) _ _ (start .pre) (edition .if1 .left))
+    rw (edition-read _ (start edition .args .fields) _ _ (start edition .pre) (edition .if1 .left))
     (job-refused _ _ _ (c .before .job-status .ensures) (c .if2 .taken) _)
 
--- past 4, 5 and 6
-in-limits : (c : tie.Else2) → let f = c .before .before .before .before .before .args .fields in Within-limits (f .m) (f .q) (f .n)
+in-limits : (c : tie.Else2) → let f = limits-start c .args .fields in Within-limits (f .m) (f .q) (f .n)
 in-limits c = job-within _ _ _ (c .before .job-status .ensures) (c .if2 .left)
 
-by-sizes : (c : tie.Else2)
-    → let a = c .before .before .before .before .before .args in
-    read-status (a .file .now) (a .pattern) (a .text) ≡ first-of (size-refusals (a .file .now) (a .fields) (a .pattern) (a .text))
+by-sizes : (c : tie.Else2) → let a = limits-start c .args in
+    Left (limits-start c) (size-refusals (a .file .now) (a .fields) (a .pattern-len) (a .text-len))
 by-sizes c =
     let edition = c .before .before in
-    let start = edition .before .before .before in
-    edition-read _ (start .args .fields) _ _ (start .pre) (edition .if1 .left) ∙ job-past _ _ _ (c .before .job-status .ensures) (c .if2 .left) _
+    edition-read _ (start edition .args .fields) _ _ (start edition .pre) (edition .if1 .left)
+    ∙ job-past _ _ _ (c .before .job-status .ensures) (c .if2 .left) _
 
 returns-3 : tie.Need-returns-3
 unfolding first-of
@@ -46,11 +57,8 @@ returns-4 c =
     let size = c .before .before in
     rw (by-sizes (size .before), eq-eqb _ _ (size .if3 .left), bad)
 
--- past the lines
-by-rooms : (c : tie.Else4)
-    → let a = c .before .before .before .before .before .before .before .before .args in
-    read-status (a .file .now) (a .pattern) (a .text)
-    ≡ first-of (buffer-refusal (a .pattern) (a .fields .m) ∷ buffer-refusal (a .text) (a .fields .n) ∷ [])
+by-rooms : (c : tie.Else4) → let a = lines-start c .args in
+    Left (lines-start c) (buffer-refusal (a .pattern-len) (a .fields .m) ∷ buffer-refusal (a .text-len) (a .fields .n) ∷ [])
 unfolding first-of
 by-rooms c =
     let good = sym (c .before .are-lines .ensures) ∙ not-false (c .before .are-lines .result) (c .if4 .left) in

@@ -1,16 +1,18 @@
 -- `steps::run_steps` meets its contract. The loop over the alignments keeps `Running`, the loop over the comparisons of one `Comparing`,
 -- and each turn is one law of these. The measures are what is left of the text and of the pattern. Assumes nothing.
 use mathlib.Core.Logic.{⊎-elim}
-use Prim.Native.Nat.{_+_, _*_, _-_, _≤_, _<_}
+use mathlib.Core.Path.{_≡_}
+use Prim.Native.Nat.{_+_, _-_, _≤_, _<_}
 use native.Mathlib.Omega.{arith}
 use lib.ListN.{length}
-use Rattle.tables.specs.Sets.{byte}
 use Rattle.steps.proofs.Comparing.{Comparing, Ended, position, comparing-first, in-buffer, comparing-all, in-order, is-position, in-pattern, past-end, comparing-more, comparing-stop}
 use Rattle.steps.proofs.Running.{Running, running-first, running-length, running-over, next-carried, running-on, running-listed}
 use Rattle.steps.proofs.Shift.{Carried}
+use Rattle.steps.proofs.Text.{span-length}
 use Rattle.steps.proofs.run_steps.Statement.{statement}
 use Rattle.steps.proofs.run_steps.Tie as tie
 use Rattle.steps.specs.Run.{Run-ready}
+use Rattle.steps.specs.Text.{shown, span}
 
 abbrev Inv-loop : tie.InvT-loop
 Inv-loop pattern text order delta2 delta1 found m b s occurrences comparisons rest i₀ i = Comparing pattern text b i
@@ -55,6 +57,10 @@ ready :
     Run-ready (a .pattern .now) (a .text .now) (a .order .now) (a .delta2 .now) (a .delta1 .now) (a .found .now)
 ready c = start c .pre
 
+-- the text goes as far as it has bytes
+far : (c : Alignment) → let a = start c .args in span (a .pattern .now) (a .text .now) ≡ length (a .text .now)
+far c = span-length _ _
+
 -- an entry that is a position is inside the pattern, and so is its place in the order
 inside :
     (c : Position) → let a = alignment (c .before) in
@@ -79,7 +85,7 @@ ended c =
 -- what the next alignment relies on
 carried :
     (c : Shifted) → let a = alignment (c .before .before) in let k = c .shift-after .result in
-    Carried (byte (start a .args .text .now)) (start a .args .pattern .now) (a .alignments .b + k) k
+    Carried (shown (start a .args .text .now)) (start a .args .pattern .now) (a .alignments .b + k) k
 carried c =
     let a = alignment (c .before .before) in
     next-carried (ready a) (a .alignments .inv) (ended (c .before)) (c .shift-after .ensures)
@@ -87,29 +93,21 @@ carried c =
 -- the numbers of a turn stay small
 small :
     (c : Shifted) → let a = alignment (c .before .before) in let v = a .alignments in let m = length (start a .args .pattern .now) in
-    (m ≤ 128)
-    × (v .b + m ≤ 16384)
-    × (v .b + m ≤ length (start a .args .text .now))
+    (v .b + m ≤ length (start a .args .text .now))
     × (1 ≤ c .shift-after .result)
     × (c .shift-after .result ≤ m)
     × (c .before .if1 .agreed ≤ m)
-    × (v .comparisons ≤ 128 * v .b)
-    × (v .occurrences ≤ v .b)
     × (v .occurrences < length (v .found))
 small c =
     let a = alignment (c .before .before) in
     let r = ready a in
     let e = ended (c .before) in
     let v = a .alignments .inv in (
-      r .pattern,
-      omega arith,
-      e .inside,
+      omega (arith, far a, e .inside),
       carried c .positive,
       carried c .within,
       e .within,
-      v .few,
-      v .fewer,
-      omega (arith, running-length r v),
+      omega (arith, far a, running-length r v),
     )
 
 cast-at : tie.Need-cast-at Inv-loop μ-loop Inv-alignments μ-alignments
@@ -133,8 +131,8 @@ shift-after-requires c κs =
       positive = known .positive;
       within = known .within;
       count = e .count;
-      delta2-ready = ready a .delta2-ready;
-      delta1-ready = ready a .delta1-ready;
+      delta2-ready = ready a .tables .delta2-ready;
+      delta1-ready = ready a .tables .delta1-ready;
     }
 
 alignments-again : tie.Need-alignments-again Inv-loop μ-loop Inv-alignments μ-alignments
@@ -167,8 +165,8 @@ run-steps-spec =
     Inv-alignments
     μ-alignments
     (λ c. running-first (c .before .before .before .before .before .pre))
-    (λ c. c .alignments .inv .inside)
-    (λ c. c .alignments .inv .inside)
+    (λ c. omega (arith, c .alignments .inv .inside, far c))
+    (λ c. omega (arith, c .alignments .inv .inside, far c))
     (λ c. omega arith)
     (λ c. comparing-first (ready (c .before)) (c .before .alignments .b))
     (λ c. omega (arith, c .loop .inv .within, ready (c .before .before) .pattern))
@@ -192,7 +190,7 @@ run-steps-spec =
     (λ c. omega (arith, small (c .before)))
     (λ c. omega (arith, small (c .before)))
     alignments-again-2
-    (λ c. let a = alignment (c .before .before) in omega (arith, a .alignments .inv, ready a .text))
-    (λ c. let a = alignment (c .before .before) in omega (arith, a .alignments .inv, ready a .text))
+    (λ c. let a = alignment (c .before .before) in omega (arith, a .alignments .inv, ready a .text, far a))
+    (λ c. let a = alignment (c .before .before) in omega (arith, a .alignments .inv, ready a .text, far a))
     (λ c. let a = alignment (c .before .before) in running-length (ready a) (a .alignments .inv))
     returns)

@@ -1,12 +1,17 @@
 -- `steps::shift_after` meets its contract: the entry that is read stands in its buffer, and is the step's shift.
 -- Assumes nothing.
-use Prim.Native.Nat.{_+_, _-_, _<_}
+use Prim.Native.Nat.{_+_, _-_, _≤_, _<_}
 use native.Mathlib.Omega.{arith}
 use borrow.Author.Needs.{needs}
 use lib.ListN.{length}
 use Rattle.steps.proofs.Shifts.{Shift-at, last-byte, first-place, first-shift-at, later-shift-at}
+use Rattle.steps.proofs.Text.{span-length}
 use Rattle.steps.proofs.shift_after.Statement.{statement}
 use Rattle.steps.proofs.shift_after.Tie as tie
+
+-- the alignment is inside the text
+inside : (c : tie.Then1) → let a = c .before .args in a .b + length (a .pattern .now) ≤ length (a .text .now)
+inside c = let a = c .before .args in omega (arith, c .before .pre .inside, span-length (a .pattern .now) (a .text .now))
 
 -- the byte seen is a byte, and the entry for it is right
 seen-fits : (c : tie.After-shared-slice-known) → let a = c .before .before .args in last-byte (a .pattern .now) (a .text .now) (a .b) < 256
@@ -31,9 +36,9 @@ pub shift-after-spec : {M : Type 1} → statement M
 shift-after-spec =
     tie.close
     (tie.spec
-    (λ c. search needs)
-    (λ c. search needs)
-    (λ c. search needs)
+    (λ c. omega (arith, inside c))
+    (λ c. omega (arith, inside c))
+    (λ c. omega (arith, inside (c .before)))
     (λ c. omega (arith, seen-fits c))
     (λ c. omega (arith, at-first c .inside))
     (λ c. omega (arith, at-first c .inside))

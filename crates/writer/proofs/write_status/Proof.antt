@@ -12,7 +12,7 @@ returns : tie.Need-returns
 unfolding write-status
 returns c = job-refused _ _ _ (c .before .job-status .ensures) (c .if1 .taken) _
 
-in-limits : (c : tie.Else1) → let a = c .before .before .args in Within-limits (a .m) (a .q) (a .n)
+in-limits : (c : tie.Else1) → let a = c .before .before .args in Within-limits (a .m) (a .hold-offset) (a .n)
 in-limits c = job-within _ _ _ (c .before .job-status .ensures) (c .if1 .left)
 
 returns-2 : tie.Need-returns-2

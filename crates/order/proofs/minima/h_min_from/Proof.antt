@@ -13,8 +13,9 @@ use lib.ListN.{length}
 use lib.Signed.{leZ}
 use mir.Syntax.{w16}
 use mir.Val.{ofZ, toZ}
+use mir.ValLaws.{toZ-pos}
 use Rattle.tables.proofs.HMin.{h-min-is, agree-more}
-use Rattle.order.proofs.Signed.{small-fits, small, subℕ-pos, minus-plus, difference, difference-fits, difference-bits, difference-back, at-least-zero}
+use Rattle.order.proofs.Signed.{subℕ-pos, minus-plus, at-least-zero, difference, difference-fits, difference-bits, difference-back}
 use Rattle.order.proofs.minima.h_min_from.Statement.{statement}
 use Rattle.order.proofs.minima.h_min_from.Tie as tie
 use Rattle.tables.specs.Facts.{Out-neg}
@@ -22,7 +23,7 @@ use Rattle.tables.specs.Sets.{byte}
 use Rattle.tables.specs.Tables.{h-min}
 use Rattle.order.specs.Worked.{H-min-begun}
 
-record Compared (w : List ℕ) (k from below : ℕ) : Type 0 where
+record Compared-down (w : List ℕ) (k from below : ℕ) : Type 0 where
   i : ℕ
   low : k ≤ i + 1
   high : i ≤ from
@@ -36,7 +37,7 @@ in-pattern below = leZ (pos 0) (toZ w16 below)
 abbrev agrees : (w : List ℕ) (k below : ℕ) → Bool
 agrees w k below = eqb (byte w (natAbs (toZ w16 below))) (byte w (natAbs (toZ w16 below) + k))
 
-module _ {w : List ℕ} {k from below : ℕ} (b : H-min-begun w k from) (r : Compared w k from below) where
+module _ {w : List ℕ} {k from below : ℕ} (b : H-min-begun w k from) (r : Compared-down w k from below) where
   small-i : r .i < 2 ^ 15
   small-i = omega (arith, b, r)
 
@@ -47,7 +48,7 @@ module _ {w : List ℕ} {k from below : ℕ} (b : H-min-begun w k from) (r : Com
   read-back = rw (r .bits) (difference-back (r .i) k small-i small-k)
 
   sum : toZ w16 below +ℤ toZ w16 k ≡ pos (r .i)
-  sum = rw (read-back, small k small-k) (minus-plus (r .i) k)
+  sum = rw (read-back, toZ-pos w16 k small-k) (minus-plus (r .i) k)
 
   -- in a turn `below` is a position
   position : in-pattern below ≡ true → (k ≤ r .i) × (toZ w16 below ≡ pos (r .i - k))
@@ -61,7 +62,7 @@ module _ {w : List ℕ} {k from below : ℕ} (b : H-min-begun w k from) (r : Com
       let back : r .i - k + k ≡ r .i = omega arith in
       rw (at, back)
 
-  next : in-pattern below ≡ true → agrees w k below ≡ true → Compared w k from (ofZ w16 (toZ w16 below -ℤ pos 1))
+  next : in-pattern below ≡ true → agrees w k below ≡ true → Compared-down w k from (ofZ w16 (toZ w16 below -ℤ pos 1))
   next e f =
       let (k≤i, at) = position e in
       let i = r .i in
@@ -69,7 +70,9 @@ module _ {w : List ℕ} {k from below : ℕ} (b : H-min-begun w k from) (r : Com
         i = i - 1;
         low = omega (arith, b);
         high = omega arith;
-        bits = rw at (omega (arith, b, difference-bits (i - k) 1 (omega (arith, small-i)) (omega arith), difference-bits (i - 1) k (omega (arith, small-i)) small-k));
+        bits =
+            let here = difference-bits (i - k) 1 (omega (arith, small-i)) (omega arith) in
+            rw at (omega (arith, b, here, difference-bits (i - 1) k (omega (arith, small-i)) small-k));
         agree = λ j l u. agree-more w k i (eqb-true (byte w (i - k)) (byte w i) (sym (compares e) ∙ f)) (r .agree) j (omega arith) u;
       }
 
@@ -80,23 +83,20 @@ module _ {w : List ℕ} {k from below : ℕ} (b : H-min-begun w k from) (r : Com
       rw at (omega (arith, r .bits, difference-bits (i - k) 1 (omega (arith, small-i)) (omega arith), difference-bits i k small-i small-k))
 
   found : (in-pattern below ≡ false) ⊎ ((in-pattern below ≡ true) × (agrees w k below ≡ false)) → h-min w k ≡ r .i
-  found left = h-min-is w k (r .i) (b .positive) (omega (arith, b, r)) (record { low = omega (arith, r .low); high = omega (arith, b, r); outside = r .agree; least = λ l. (l, differs l) })
-    where
-      differs : k ≤ r .i → byte w (r .i - k) ≢ byte w (r .i)
-      differs l =
-          ⊎-elim
-          (λ e. absurd (omega (arith, leb-false k (r .i) (rw (read-back, at-least-zero) at e))))
-          (λ t. eqb-false (byte w (r .i - k)) (byte w (r .i)) (sym (compares (t .0)) ∙ t .1))
-          left
+  found left =
+      let differs : k ≤ r .i → byte w (r .i - k) ≢ byte w (r .i) = λ l.
+      ⊎-elim
+      (λ e. absurd (omega (arith, leb-false k (r .i) (rw (read-back, at-least-zero) at e))))
+      (λ t. eqb-false (byte w (r .i - k)) (byte w (r .i)) (sym (compares (t .0)) ∙ t .1))
+      left in
+      h-min-is w k (r .i) (b .positive) (omega (arith, b, r))
+      (record { low = omega (arith, r .low); high = omega (arith, b, r); outside = r .agree; least = λ l. (l, differs l) })
 
 abbrev Inv-loop : tie.InvT-loop
-Inv-loop pattern k from below₀ below = Compared pattern k from below
+Inv-loop pattern k from below₀ below = Compared-down pattern k from below
 
 abbrev μ-loop : tie.MeasureT-loop
 μ-loop pattern k from below₀ below = (below + 1) % 65536
-
-cast-below-2 : tie.Need-cast-below-2 Inv-loop μ-loop
-cast-below-2 c = small-fits (c .args .k) (omega arith)
 
 sub-below : tie.Need-sub-below Inv-loop μ-loop
 sub-below c =
@@ -121,9 +121,6 @@ here :
     (k ≤ i) × (toZ w16 (c .before .loop .below) ≡ pos (i - k))
 here c = position (c .before .before .pre) (c .before .loop .inv) (c .loop-test .taken)
 
-cast-if1 : tie.Need-cast-if1 Inv-loop μ-loop
-cast-if1 c = rw (here c .1) (tt, record { fits = omega arith })
-
 sub-below-2 : tie.Need-sub-below-2 Inv-loop μ-loop
 sub-below-2 c =
     let d = c .before .before .before in
@@ -131,28 +128,12 @@ sub-below-2 c =
     let i = d .before .loop .inv .i in
     rw (here d .1) (difference-fits (i - k) 1 (omega arith) (omega arith))
 
-loop-less : tie.Need-loop-less Inv-loop μ-loop
-loop-less c =
-    let d = c .before .before .before in
-    less (d .before .before .pre) (d .before .loop .inv) (d .loop-test .taken)
-
-loop-again : tie.Need-loop-again Inv-loop μ-loop
-loop-again c =
-    let d = c .before .before .before in
-    next (d .before .before .pre) (d .before .loop .inv) (d .loop-test .taken) (c .if1 .taken)
-
-add-result : tie.Need-add-result Inv-loop μ-loop
-add-result c =
-    let b = c .before .before .pre in
-    let r = c .before .loop .inv in
-    rw (sum b r) (small-fits (r .i) (small-i b r))
-
 returns : tie.Need-returns Inv-loop μ-loop
 returns c =
     let b = c .before .before .pre in
     let r = c .before .loop .inv in
     let at-end = found b r (⊎-elim (λ t. inr (t .0 .taken, t .3 .left)) (λ t. inl (t .left)) (c .loop-test .came)) in
-    rw (sum b r, small (r .i) (small-i b r)) (ap pos (sym at-end))
+    rw (sum b r, toZ-pos w16 (r .i) (small-i b r)) (ap pos (sym at-end))
 
 pub h-min-from-spec : {M : Type 1} → statement M
 h-min-from-spec =
@@ -160,18 +141,18 @@ h-min-from-spec =
     (tie.spec
     Inv-loop
     μ-loop
-    (λ c. small-fits (c .args .from) (omega arith))
-    cast-below-2
+    (λ c. record { sfits = omega arith })
+    (λ c. record { sfits = omega arith })
     sub-below
     loop-holds
-    cast-if1
+    (λ c. rw (here c .1) (tt, record { fits = omega arith }))
     (λ c. rw (here (c .before) .1) (omega arith))
-    (λ c. cast-if1 (c .before))
+    (λ c. rw (here (c .before) .1) (tt, record { fits = omega arith }))
     (λ c. rw (here (c .before) .1) (omega (arith, here (c .before) .0)))
     (λ c. rw (here (c .before .before) .1) (omega (arith, here (c .before .before) .0)))
     sub-below-2
-    loop-less
-    loop-again
-    (λ c. cast-below-2 (c .before .before))
-    add-result
+    (λ c. let d = c .before .before .before in less (d .before .before .pre) (d .before .loop .inv) (d .loop-test .taken))
+    (λ c. let d = c .before .before .before in next (d .before .before .pre) (d .before .loop .inv) (d .loop-test .taken) (c .if1 .taken))
+    (λ c. record { sfits = omega arith })
+    (λ c. let b = c .before .before .pre in let r = c .before .loop .inv in rw (sum b r) (record { sfits = small-i b r }))
     returns)

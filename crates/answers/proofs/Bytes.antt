@@ -1,0 +1,18 @@
+-- Lists of bytes by index: each entry of such a list is below 256, also the 0 past its end, and a list of such entries is one.
+-- By induction on the list.
+use mathlib.Core.List.{List, [], _∷_}
+use Prim.Native.Nat.{ℕ, zero, suc, _<_}
+use native.Mathlib.Omega.{arith}
+use lib.ListN.{length, getD}
+use Rattle.answers.specs.Bytes.{Bytes}
+
+pub bytes-entry : (t : List ℕ) → Bytes t → (i : ℕ) → getD t i 0 < 256
+unfolding Bytes
+bytes-entry [] h i = omega arith
+bytes-entry (b ∷ t) h zero = h .0
+bytes-entry (b ∷ t) h (suc i) = bytes-entry t (h .1) i
+
+pub each-byte : (t : List ℕ) → ((i : ℕ) → i < length t → getD t i 0 < 256) → Bytes t
+unfolding Bytes
+each-byte [] h = tt
+each-byte (b ∷ t) h = (h 0 (omega arith), each-byte t (λ i l. h (suc i) (omega arith)))
