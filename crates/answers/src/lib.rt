@@ -7,7 +7,7 @@ ghost use Rattle.answers.specs.Refusals.{first-of, text-refusal, rule-re
 // Document 01's answer. What a call does not work out is 0 in it, and a refused call answers zeros beside its status.
 #[repr(C)]
 pub struct Answer {
-    // the number: 0 for done, or the refusal, 1 to 7
+    // the number: 0 for done, or that of the refusal
     pub status: u32,
     // the finds, h
     pub occurrences: u32,

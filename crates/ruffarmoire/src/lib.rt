@@ -4,6 +4,7 @@ use answers::Answer;
 use job::ReadAnswer;
 use job::WriteAnswer;
 use printer::ReportAnswer;
+use turn::TurnAnswer;
 ghost use mathlib.Core.Path.{_≡_};
 ghost use Rattle.converter.specs.Convert.{Convert-outcome};
 ghost use Rattle.job.specs.Read.{Read-outcome};
@@ -13,6 +14,7 @@ ghost use Rattle.ones.specs.Ones.{count-answer};
 ghost use Rattle.report.specs.Report.{Report-outcome};
 ghost use Rattle.tables.specs.Buffers.{tables};
 ghost use Rattle.tables.specs.Prepare.{Prepare-outcome};
+ghost use Rattle.turn.specs.Turn.{Turn-outcome};
 
 // Reads a job file into the caller's buffers for pattern (motif) and text (chain).
 #[no_mangle]
@@ -102,6 +104,22 @@ pub extern "C" fn count_ones(text: &[u8]) -> Answer
     ensures { λ r. ⌜ r ≡ count-answer (now (text .entry)) ⌝ }
 {
     ones::count_ones(text)
+}
+
+// Turns a job in one of four ways: its pattern (motif) and text (chain) into the caller's buffers, its hold offset (hold place) in the answer.
+#[no_mangle]
+pub extern "C" fn turn(
+    way: u32,
+    hold_offset: u32,
+    pattern: &[u8],
+    text: &[u8],
+    turned_pattern: &mut [u8],
+    turned_text: &mut [u8],
+) -> TurnAnswer
+    ensures { λ r. ⌜ Turn-outcome way «hold_offset» (now (pattern .entry)) (now (text .entry))
+        (now («turned_pattern» .entry)) (now («turned_pattern» .exit)) (now («turned_text» .entry)) (now («turned_text» .exit)) r ⌝ }
+{
+    turn::turn(way, hold_offset, pattern, text, turned_pattern, turned_text)
 }
 
 // Writes what SEEK prints for the job of a file.

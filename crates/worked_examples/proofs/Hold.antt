@@ -7,6 +7,7 @@ use lib.Count.{ones}
 use lib.ListN.{replicate, length-replicate, getD-replicate}
 use Rattle.answers.proofs.Bytes.{each-byte}
 use Rattle.answers.specs.Answers.{if-done, answered}
+use Rattle.answers.specs.Buffers.{from-entry, in-front}
 use Rattle.answers.specs.Bytes.{Bytes}
 use Rattle.answers.specs.Refusals.{first-of, longest-pattern, longest-text, job-refusals}
 use Rattle.hex.specs.Hex.{is-digit, digit-value, digit, digits, all-digits, number}
@@ -28,6 +29,9 @@ use Rattle.matcher.specs.Search.{search-status}
 use Rattle.frames.specs.Frames.{with-holds, frames}
 use Rattle.ones.specs.Ones.{ones-of, count-status, count-answer}
 use Rattle.converter.specs.Convert.{convert-status}
+use Rattle.mirror.specs.Mirrored.{reversed-bits, mirrored}
+use Rattle.turn.specs.Turn.{turn-status, turn-answer, turned-left}
+use Rattle.turn.specs.Turned.{turned-by, turned, turned-index}
 use Rattle.printer.specs.Printed.{report-status, refused-report}
 use Rattle.report.specs.Report.{done-report, seek-report}
 use Rattle.worked_examples.specs.Examples.{a, bytes, Holds, examples, All, All-hold}
@@ -57,6 +61,7 @@ unfolding bytes Holds examples All All-hold
     occurs occurrences-from all-occurrences occurrences bound shown span
     agreeing align step alignments-from alignments compared is-occurrence comparisons-of listed comparisons
     with-holds frames ones ones-of line done-report seek-report
+    reversed-bits mirrored turned-by turned turned-index turn-status turn-answer turned-left from-entry in-front
 examples-hold =
     (refl, (refl, (refl, tt)))
     then (refl, (refl, (refl, tt)))
@@ -75,4 +80,7 @@ examples-hold =
     then (refl, (refl, (refl, (refl, (refl, (refl, (refl, (refl, (refl, (refl, (refl, (refl, (refl, (refl, (refl, (refl, (refl, (refl, (refl, tt)))))))))))))))))))
     then (refl, (refl, (refl, (refl, (refl, tt)))))
     then (refl, (refl, (refl, (refl, (refl, tt)))))
+    then (refl, (refl, (refl, (refl, (refl, (refl, (refl, (refl, (refl, tt)))))))))
+    then ((refl, refl), ((refl, refl), ((refl, refl), ((refl, refl), (refl, (refl, tt))))))
+    then (refl, (refl, (refl, (refl, (refl, (refl, (refl, (refl, (refl, (refl, (refl, (refl, (refl, (refl, (refl, tt)))))))))))))))
     then tt

@@ -1,5 +1,5 @@
--- The worked examples: document 01's ten ("Marked swatches"), its edges and its orders of refusal as rows of one table, and the common
--- statement that covers them. These are definitions.
+-- The worked examples: document 01's ten ("Marked swatches"), its edges and its orders of refusal, and what document 02 adds, as rows of one
+-- table, and the common statement that covers them. These are definitions.
 use mathlib.Core.List.{List, [], _∷_}
 use mathlib.Core.Path.{_≡_}
 use Prim.Native.Char.{code}
@@ -21,7 +21,11 @@ use Rattle.steps.specs.Occurrences.{occurrences}
 use Rattle.steps.specs.Steps.{alignments-in, comparisons, listed}
 use Rattle.matcher.specs.Search.{search-status, search-done}
 use Rattle.ones.specs.Ones.{ones-of, count-status, count-answer}
+use Rattle.frames.specs.Frames.{frames}
 use Rattle.converter.specs.Convert.{convert-status, convert-done}
+use Rattle.turn.specs.Turn.{turn-status, turn-answer, turned-left}
+use Rattle.turn.specs.Turned.{turned}
+use Rattle.turn.specs.declared.TurnAnswer.{TurnAnswer}
 use Rattle.printer.specs.Printed.{report-status}
 use Rattle.report.specs.Report.{seek-report}
 
@@ -48,6 +52,11 @@ pub data Claim : Type 0 where
   counting-gives : (n : ℕ) → (status : ℕ) → Claim
   reporting-gives : (report-len out-len : ℕ) → (status : ℕ) → Claim
   answers-are : (given whole : Answer) → Claim
+  turned-are : (way : ℕ) → (bytes turned-bytes : List ℕ) → Claim
+  frames-are : (q : ℕ) → (w t frames : List ℕ) → Claim
+  turning-gives : (way m q n pattern-len text-len : ℕ) → (status : ℕ) → Claim
+  turning-leaves : (status way : ℕ) → (bytes buffer left : List ℕ) → Claim
+  turn-answers-are : (given whole : TurnAnswer) → Claim
 
 -- the bytes of what is written in quotes: each character's code
 unfoldable pub bytes : String → List ℕ
@@ -88,6 +97,11 @@ Holds (needed-are m l) = needed m ≡ l
 Holds (counting-gives n status) = count-status n ≡ status
 Holds (reporting-gives l out status) = report-status l out ≡ status
 Holds (answers-are given whole) = given ≡ whole
+Holds (turned-are way bytes turned-bytes) = turned way bytes ≡ turned-bytes
+Holds (frames-are q w t these) = frames q w t ≡ these
+Holds (turning-gives way m q n pattern text status) = turn-status way m q n pattern text ≡ status
+Holds (turning-leaves s way bytes buffer left) = turned-left s way bytes buffer ≡ left
+Holds (turn-answers-are given whole) = given ≡ whole
 
 -- a row: its number, up to 10 that of document 01, and what it claims
 pub record Example : Type 0 where
@@ -101,12 +115,16 @@ row n cs = record { number = n; claims = cs }
 abbrev room : (order delta2 delta1 : ℕ) → TableLengths
 room o d2 d1 = record { order = o; delta2 = d2; delta1 = d1 }
 
+abbrev no-room : TableLengths
+no-room = room 0 0 0
+
 -- an answer by its fields: the number, the finds, the looks and the holes
 abbrev answer : (status h C holes : ℕ) → Answer
 answer s h C o = record { status = s; occurrences = h; comparisons = C; ones = o }
 
-abbrev no-room : TableLengths
-no-room = room 0 0 0
+-- the same with the turned q
+abbrev turn-answered : (status q : ℕ) → TurnAnswer
+turn-answered s q = record { answer = answer s 0 0 0; q = q }
 
 abbrev aacaa : List ℕ
 aacaa = a ∷ a ∷ c ∷ a ∷ a ∷ []
@@ -116,6 +134,9 @@ cbaaa = c ∷ b ∷ a ∷ a ∷ a ∷ []
 
 abbrev aaaa : List ℕ
 aaaa = a ∷ a ∷ a ∷ a ∷ []
+
+abbrev aac : List ℕ
+aac = a ∷ a ∷ c ∷ []
 
 -- the listing of "What SEEK prints": its text (chain), the job file, and what is printed
 abbrev listing : List ℕ
@@ -127,7 +148,7 @@ listing-file = "0105020009\n06\n06\n18\n06\n06\n06\n06\n18\n06\n06\n06\n18\n06\n
 abbrev listing-printed : String
 listing-printed = "0002\n0000000C\n00000012\n0000\n0004\n0006\n0006\n0100\n0006\n0006\n0006\n0100\n0006\n0006\n"
 
--- the table; above each row stands document 01's line
+-- the table; above each row stands document 01's line, or document 02's
 unfoldable pub examples : List Example
 examples =
     -- 1. a a c a a: p 3; order 4, 3, 0, 1, 2, -1; Δ2 from i = 2: 1, 3, 3, 3, 3
@@ -266,6 +287,45 @@ examples =
     ∷ answers-are (answered 0 (convert-done aacaa listing)) (answer 0 2 12 18)
     ∷ answers-are (count-answer (0xFF ∷ 0x00 ∷ [])) (answer 0 0 0 8)
     ∷ answers-are (answered 7 (convert-done aacaa listing)) (answer 7 0 0 0)
+    ∷ [])
+    -- Document 02, "Mirrored edges": 0 as drawn, 1 cards mirrored, 2 order of cards reversed, 3 both; turning the order moves q to m - 1 - q
+    ∷ row 18
+    (turned-are 0 (b ∷ a ∷ c ∷ []) (b ∷ a ∷ c ∷ [])
+    ∷ turned-are 1 (b ∷ a ∷ c ∷ []) (0x80 ∷ 0x60 ∷ c ∷ [])
+    ∷ turned-are 2 (b ∷ a ∷ c ∷ []) (c ∷ a ∷ b ∷ [])
+    ∷ turned-are 3 (b ∷ a ∷ c ∷ []) (c ∷ 0x60 ∷ 0x80 ∷ [])
+    ∷ turn-answers-are (turn-answer 0 0 4 1) (turn-answered 0 1)
+    ∷ turn-answers-are (turn-answer 0 1 4 1) (turn-answered 0 1)
+    ∷ turn-answers-are (turn-answer 0 2 4 1) (turn-answered 0 2)
+    ∷ turn-answers-are (turn-answer 0 3 4 1) (turn-answered 0 2)
+    ∷ turn-answers-are (turn-answer 8 3 4 1) (turn-answered 8 0)
+    ∷ [])
+    -- A motif and chain turned alike have the same finds for ways 0 and 1, and n - m - b for each find b for ways 2 and 3
+    ∷ row 19
+    (occurrences-are aac listing (0 ∷ 4 ∷ [])
+    ∷ occurrences-are (turned 1 aac) (turned 1 listing) (0 ∷ 4 ∷ [])
+    ∷ occurrences-are (turned 2 aac) (turned 2 listing) (2 ∷ 6 ∷ [])
+    ∷ occurrences-are (turned 3 aac) (turned 3 listing) (2 ∷ 6 ∷ [])
+    ∷ frames-are 0 aac listing (256 ∷ a ∷ c ∷ a ∷ 256 ∷ a ∷ c ∷ a ∷ a ∷ [])
+    ∷ frames-are 2 (turned 3 aac) (turned 3 listing) (0x60 ∷ 0x60 ∷ c ∷ 0x60 ∷ 256 ∷ 0x60 ∷ c ∷ 0x60 ∷ 256 ∷ [])
+    ∷ [])
+    -- The turned motif and chain go into buffers of m and n entries, under 7. Turned away: 8, a way above 3, tested before all else
+    ∷ row 20
+    (turning-gives 0 1 0 1 1 1 0
+    ∷ turning-gives 1 1 0 1 1 1 0
+    ∷ turning-gives 2 1 0 1 1 1 0
+    ∷ turning-gives 3 128 127 16384 128 16384 0
+    ∷ turning-gives 4 1 0 1 1 1 8
+    ∷ turning-gives 4294967295 1 0 1 1 1 8
+    ∷ turning-gives 4 0 0 16385 0 0 8
+    ∷ turning-gives 3 0 0 16385 0 0 4
+    ∷ turning-gives 3 129 0 0 129 0 4
+    ∷ turning-gives 3 1 1 16385 0 0 5
+    ∷ turning-gives 3 1 0 16385 0 0 6
+    ∷ turning-gives 3 1 0 1 0 1 7
+    ∷ turning-gives 3 1 0 1 1 0 7
+    ∷ turning-leaves 0 2 (b ∷ a ∷ []) (1 ∷ 2 ∷ 3 ∷ []) (a ∷ b ∷ 3 ∷ [])
+    ∷ turning-leaves 8 2 (b ∷ a ∷ []) (1 ∷ 2 ∷ 3 ∷ []) (1 ∷ 2 ∷ 3 ∷ [])
     ∷ [])
     ∷ []
 

@@ -1,0 +1,3 @@
+pub mod Turned
+pub mod Taken
+pub mod Calls

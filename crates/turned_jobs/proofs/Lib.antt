@@ -1,0 +1,5 @@
+pub mod Reversed
+pub mod Occurrences
+pub mod Frames
+pub mod Ones
+pub mod Calls

@@ -1,0 +1,42 @@
+-- What is promised of a job that is turned (document 02, "Mirrored edges"): its occurrences (finds), its frames and its ones (holes).
+-- Each is a type, and its proof is in proofs/. These are definitions.
+use mathlib.Core.Bool.{cond}
+use mathlib.Core.List.{List, map, reverse}
+use mathlib.Core.Path.{_≡_}
+use Prim.Native.Nat.{ℕ, _-_, _<_}
+use lib.Dec.{eqb}
+use lib.ListN.{length}
+use Rattle.answers.specs.Bytes.{Bytes}
+use Rattle.steps.specs.Occurrences.{occurrences}
+use Rattle.ones.specs.Ones.{ones-of}
+use Rattle.frames.specs.Frames.{hold, frames}
+use Rattle.mirror.specs.Mirrored.{mirrored}
+use Rattle.turn.specs.Turned.{reverses, turned-by, turned, turned-index}
+
+-- the positions (places) of a job turned: n - m - b for each position b in ways 2 and 3, in reverse order so as to ascend again, and else the same
+unfoldable pub turned-positions : (way m n : ℕ) → (positions : List ℕ) → List ℕ
+turned-positions way m n bs = cond (reverses way) (reverse (map (λ b. n - m - b) bs)) bs
+
+-- a pattern (motif) and a text (chain) turned alike have these occurrences (finds)
+unfoldable pub Occurrences-turned : Type 0
+Occurrences-turned =
+    (way : ℕ) (w t : List ℕ) → Bytes w → Bytes t →
+    occurrences (turned way w) (turned way t) ≡ turned-positions way (length w) (length t) (occurrences w t)
+
+-- a frame mirrored: a hold stays a hold, and a move is one with its byte (card) mirrored
+unfoldable pub mirrored-frame : (frame : ℕ) → ℕ
+mirrored-frame f = cond (eqb f hold) hold (mirrored f)
+
+-- frames turned in a way
+unfoldable pub turned-frames : (way : ℕ) → (frames : List ℕ) → List ℕ
+turned-frames way fs = turned-by mirrored-frame way fs
+
+-- a job turned, its hold offset (hold place) too, is converted to the job's frames turned
+unfoldable pub Frames-turned : Type 0
+Frames-turned =
+    (way q : ℕ) (w t : List ℕ) → Bytes w → Bytes t → q < length w →
+    frames (turned-index way (length w) q) (turned way w) (turned way t) ≡ turned-frames way (frames q w t)
+
+-- a text turned has as many ones (holes)
+unfoldable pub Ones-turned : Type 0
+Ones-turned = (way : ℕ) (t : List ℕ) → Bytes t → ones-of (turned way t) ≡ ones-of t
