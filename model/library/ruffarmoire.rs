@@ -9,10 +9,10 @@ compile_error!(
     "target/staticlib/libruffarmoire.a is missing. Run `rt staticlib ruffarmoire` at the repository's root first."
 );
 
-use ruffarmoire_model::answers::{Answer, ReadAnswer, ReportAnswer, WriteAnswer};
+use ruffarmoire_model::answers::{Answer, ReadAnswer, ReportAnswer, TurnAnswer, WriteAnswer};
 
 mod foreign {
-    use super::{Answer, ReadAnswer, ReportAnswer, WriteAnswer};
+    use super::{Answer, ReadAnswer, ReportAnswer, TurnAnswer, WriteAnswer};
 
     #[link(name = "ruffarmoire", kind = "static")]
     extern "C" {
@@ -87,6 +87,19 @@ mod foreign {
             out: *mut u8,
             out_length: usize,
         ) -> ReportAnswer;
+
+        pub fn turn(
+            way: u32,
+            hold_offset: u32,
+            pattern: *const u8,
+            pattern_length: usize,
+            text: *const u8,
+            text_length: usize,
+            turned_pattern: *mut u8,
+            turned_pattern_length: usize,
+            turned_text: *mut u8,
+            turned_text_length: usize,
+        ) -> TurnAnswer;
     }
 }
 
@@ -208,4 +221,29 @@ pub fn count_ones(text: &[u8]) -> Answer {
 pub fn seek_report(file: &[u8], out: &mut [u8]) -> ReportAnswer {
     // SAFETY: each pointer and length is that of a slice that stays borrowed during the call.
     unsafe { foreign::seek_report(file.as_ptr(), file.len(), out.as_mut_ptr(), out.len()) }
+}
+
+pub fn turn(
+    way: u32,
+    hold_offset: u32,
+    pattern: &[u8],
+    text: &[u8],
+    turned_pattern: &mut [u8],
+    turned_text: &mut [u8],
+) -> TurnAnswer {
+    // SAFETY: each pointer and length is that of a slice that stays borrowed during the call.
+    unsafe {
+        foreign::turn(
+            way,
+            hold_offset,
+            pattern.as_ptr(),
+            pattern.len(),
+            text.as_ptr(),
+            text.len(),
+            turned_pattern.as_mut_ptr(),
+            turned_pattern.len(),
+            turned_text.as_mut_ptr(),
+            turned_text.len(),
+        )
+    }
 }

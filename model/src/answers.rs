@@ -17,6 +17,8 @@ pub enum Refusal {
     TextLength,
     /// 7: a buffer is too short.
     ShortBuffer,
+    /// 8: a way of turning that is above 3.
+    Way,
 }
 
 impl Refusal {
@@ -30,6 +32,7 @@ impl Refusal {
             Refusal::HoldOffset => 5,
             Refusal::TextLength => 6,
             Refusal::ShortBuffer => 7,
+            Refusal::Way => 8,
         }
     }
 }
@@ -79,6 +82,15 @@ pub struct ReportAnswer {
     pub bytes: u32,
 }
 
+/// What turning a job answers.
+#[repr(C)]
+#[derive(Clone, Copy, Debug, Default, PartialEq, Eq)]
+pub struct TurnAnswer {
+    pub answer: Answer,
+    /// The turned hold offset.
+    pub q: u32,
+}
+
 /// A refused answer holds the refusal and zeros elsewhere.
 impl From<Refusal> for Answer {
     fn from(refusal: Refusal) -> Answer {
@@ -112,6 +124,15 @@ impl From<Refusal> for ReportAnswer {
         ReportAnswer {
             answer: refusal.into(),
             ..ReportAnswer::default()
+        }
+    }
+}
+
+impl From<Refusal> for TurnAnswer {
+    fn from(refusal: Refusal) -> TurnAnswer {
+        TurnAnswer {
+            answer: refusal.into(),
+            ..TurnAnswer::default()
         }
     }
 }

@@ -4,10 +4,11 @@
 //! the entries that it puts at the front of it; entries past those keep what they held. A refused
 //! call puts no entry into any buffer.
 
-use crate::answers::{Answer, ReadAnswer, Refusal, ReportAnswer, WriteAnswer};
+use crate::answers::{Answer, ReadAnswer, Refusal, ReportAnswer, TurnAnswer, WriteAnswer};
 use crate::job::{check_hold, check_pattern_length, check_text_length, Job};
 use crate::job::{file_length, first_line, lines};
 use crate::tables::Tables;
+use crate::turn::{turned_job, Way};
 use crate::{convert, job, seek, steps};
 
 /// Refusal 7 for one buffer.
@@ -278,4 +279,66 @@ pub fn seek_report(file: &[u8], buffer_length: usize) -> ReportOutcome {
             ..ReportOutcome::default()
         },
     }
+}
+
+/// What turning a job leaves.
+#[derive(Clone, Debug, Default, PartialEq, Eq)]
+pub struct TurnOutcome {
+    pub answer: TurnAnswer,
+    pub turned_pattern: Vec<u8>,
+    pub turned_text: Vec<u8>,
+}
+
+/// Turns a job: its pattern and its text into a buffer each, its hold offset into the answer.
+pub fn turn(
+    way: u32,
+    hold: u32,
+    pattern: &[u8],
+    text: &[u8],
+    turned_pattern_length: usize,
+    turned_text_length: usize,
+) -> TurnOutcome {
+    match try_turn(
+        way,
+        hold,
+        pattern,
+        text,
+        turned_pattern_length,
+        turned_text_length,
+    ) {
+        Ok(turned) => TurnOutcome {
+            answer: TurnAnswer {
+                answer: Answer::default(),
+                q: count(turned.hold),
+            },
+            turned_pattern: turned.pattern,
+            turned_text: turned.text,
+        },
+        Err(refusal) => TurnOutcome {
+            answer: refusal.into(),
+            ..TurnOutcome::default()
+        },
+    }
+}
+
+fn try_turn(
+    way: u32,
+    hold: u32,
+    pattern: &[u8],
+    text: &[u8],
+    turned_pattern_length: usize,
+    turned_text_length: usize,
+) -> Result<Job, Refusal> {
+    let way = Way::numbered(way)?;
+    check_pattern_length(pattern.len())?;
+    check_hold(hold as usize, pattern.len())?;
+    check_text_length(text.len())?;
+    check_buffer(turned_pattern_length, pattern.len())?;
+    check_buffer(turned_text_length, text.len())?;
+    let job = Job {
+        pattern: pattern.to_vec(),
+        hold: hold as usize,
+        text: text.to_vec(),
+    };
+    Ok(turned_job(way, &job))
 }

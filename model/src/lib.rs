@@ -1,12 +1,13 @@
-//! A plain model of document 01, written from that document alone.
+//! A plain model of document 01 and of document 02's request U1, written from these documents alone.
 //!
 //! It follows the definitions word by word and takes no short cuts: the tables by their sets, the
-//! occurrences by their meaning, the search by its steps with every comparison written down. It
-//! shares no code and no table with the library that it is compared with.
+//! occurrences by their meaning, the search by its steps with every comparison written down, a
+//! mirrored byte by its bits. It shares no code and no table with the library that it is compared
+//! with.
 //!
-//! Document 01 has trade words for the things of this field. Here they go by the field's names:
+//! The documents have trade words for the things of this field. Here they go by the field's names:
 //!
-//! | document 01     | here                        |
+//! | documents       | here                        |
 //! |-----------------|-----------------------------|
 //! | card            | byte                        |
 //! | motif w         | pattern                     |
@@ -18,6 +19,7 @@
 //! | turned away     | refused                     |
 //! | lent buffer     | the caller's buffer         |
 //! | swatch          | worked example              |
+//! | as drawn        | as it is                    |
 //!
 //! Frame, move, hold, job and SEEK keep their names.
 //!
@@ -38,6 +40,7 @@ pub mod job;
 pub mod seek;
 pub mod steps;
 pub mod tables;
+pub mod turn;
 
 /// The most bytes that a pattern has.
 pub const MAX_PATTERN: usize = 128;

@@ -13,7 +13,8 @@ use common::prepare_suite::PrepareCalls;
 use common::report_suite::ReportCalls;
 use common::searches;
 use common::table_buffers::{entries, LentTables};
-use ruffarmoire_model::answers::{Answer, ReadAnswer, ReportAnswer, WriteAnswer};
+use common::turn_suite::TurnCalls;
+use ruffarmoire_model::answers::{Answer, ReadAnswer, ReportAnswer, TurnAnswer, WriteAnswer};
 use ruffarmoire_model::convert;
 
 struct Baseline;
@@ -84,6 +85,19 @@ impl ReportCalls for Baseline {
     }
 }
 
+impl TurnCalls for Baseline {
+    fn turn(
+        way: u32,
+        hold: u32,
+        pattern: &[u8],
+        text: &[u8],
+        turned_pattern: &mut [u8],
+        turned_text: &mut [u8],
+    ) -> TurnAnswer {
+        baseline::turn::turn(way, hold, pattern, text, turned_pattern, turned_text)
+    }
+}
+
 mod job {
     job_suite!(crate::Baseline);
 }
@@ -111,6 +125,10 @@ mod converter {
 
 mod report {
     report_suite!(crate::Baseline);
+}
+
+mod turn {
+    turn_suite!(crate::Baseline);
 }
 
 /// What `memmem` and the plain scan find.

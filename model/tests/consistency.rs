@@ -1,13 +1,16 @@
-//! The model against itself: what document 01 says of the definitions must hold of them.
+//! The model against itself: what the documents say of the definitions must hold of them.
 
 use ruffarmoire_model::answers::Refusal;
 use ruffarmoire_model::calls::{self, TableLengths};
 use ruffarmoire_model::convert;
 use ruffarmoire_model::gen::{Random, Shape, SHAPES};
-use ruffarmoire_model::job;
+use ruffarmoire_model::job::{self, Job};
 use ruffarmoire_model::seek::seek;
 use ruffarmoire_model::steps::{bound, search_with, Search};
 use ruffarmoire_model::tables::{in_neg, in_pos, period, Tables};
+use ruffarmoire_model::turn::{
+    mirrored, turned_bytes, turned_frames, turned_job, turned_occurrences, Way, WAYS,
+};
 
 /// The steps find what occurs, within the bound.
 fn check_search(tables: &Tables, pattern: &[u8], text: &[u8]) -> Search {
@@ -321,4 +324,93 @@ fn taken_files_are_written_files() {
         }
     }
     assert!(taken > 1_000);
+}
+
+#[test]
+fn bytes_are_mirrored() {
+    for byte in 0..=255_u8 {
+        assert_eq!(mirrored(byte), byte.reverse_bits());
+        assert_eq!(mirrored(mirrored(byte)), byte);
+        assert_eq!(convert::ones(&[mirrored(byte)]), convert::ones(&[byte]));
+    }
+    assert_eq!(
+        [0x06, 0x18, 0x01, 0x0B].map(mirrored),
+        [0x60, 0x18, 0x80, 0xD0]
+    );
+}
+
+#[test]
+fn ways_are_numbered() {
+    for (number, way) in WAYS.into_iter().enumerate() {
+        assert_eq!(Way::numbered(number as u32), Ok(way));
+    }
+    for number in [4, 5, 255, 256, u32::MAX] {
+        assert_eq!(Way::numbered(number), Err(Refusal::Way));
+    }
+    let bytes = [0x06, 0x01, 0x18];
+    let turned = WAYS.map(|way| turned_bytes(way, &bytes));
+    assert_eq!(
+        turned,
+        [
+            [0x06, 0x01, 0x18],
+            [0x60, 0x80, 0x18],
+            [0x18, 0x01, 0x06],
+            [0x18, 0x80, 0x60]
+        ]
+    );
+}
+
+/// The same turn twice gives the job back, the byte at the hold offset stays there, and the
+/// occurrences, the frames and the ones are those of the job, turned.
+fn check_turned(job: &Job) {
+    let (m, n) = (job.pattern.len(), job.text.len());
+    let found = convert::occurrences(&job.pattern, &job.text);
+    let frames = convert::frames(&job.pattern, job.hold, &job.text);
+    for way in WAYS {
+        let turned = turned_job(way, job);
+        assert_eq!(turned_job(way, &turned), *job);
+        assert_eq!(
+            [turned.pattern[turned.hold]],
+            *turned_bytes(way, &[job.pattern[job.hold]])
+        );
+        assert_eq!(
+            convert::occurrences(&turned.pattern, &turned.text),
+            turned_occurrences(way, &found, m, n)
+        );
+        assert_eq!(
+            convert::frames(&turned.pattern, turned.hold, &turned.text),
+            turned_frames(way, &frames)
+        );
+        assert_eq!(convert::ones(&turned.text), convert::ones(&job.text));
+    }
+}
+
+#[test]
+fn all_short_jobs_turned() {
+    for m in 1..=4 {
+        for pattern_number in 0..1 << m {
+            for n in 0..=8 {
+                for text_number in 0..1 << n {
+                    for hold in 0..m {
+                        check_turned(&Job {
+                            pattern: word(pattern_number, 2, m),
+                            hold,
+                            text: word(text_number, 2, n),
+                        });
+                    }
+                }
+            }
+        }
+    }
+}
+
+#[test]
+fn jobs_turned() {
+    let mut random = Random::seeded(9);
+    for round in 0..1_200 {
+        let (most_m, most_n) = if round % 4 == 0 { (128, 600) } else { (9, 40) };
+        let (m, n) = (random.between(1, most_m), random.between(0, most_n));
+        check_turned(&SHAPES[round % SHAPES.len()].job(&mut random, m, n));
+    }
+    check_turned(&Shape::Planted.job(&mut random, 128, 16_384));
 }

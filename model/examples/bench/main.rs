@@ -24,10 +24,12 @@ mod program;
 mod search;
 mod table_buffers;
 mod timing;
+mod turn;
 
 /// The parts, in the order in which they run.
-const PARTS: [(&str, fn()); 5] = [
+const PARTS: [(&str, fn()); 6] = [
     ("calls", calls::run),
+    ("turn", turn::run),
     ("prepare", prepare::run),
     ("search", search::run),
     ("program", program::run),

@@ -27,3 +27,5 @@ pub mod matcher_suite;
 pub mod prepare_suite;
 #[macro_use]
 pub mod report_suite;
+#[macro_use]
+pub mod turn_suite;

@@ -7,3 +7,4 @@ pub mod job;
 pub mod matcher;
 pub mod report;
 pub mod tables;
+pub mod turn;

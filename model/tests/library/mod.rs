@@ -1,0 +1,86 @@
+//! The library, written in Rattle, as an implementation of the calls that each suite asks for.
+
+#[path = "../../library/ruffarmoire.rs"]
+mod calls;
+
+use ruffarmoire_model::answers::{Answer, ReadAnswer, ReportAnswer, TurnAnswer, WriteAnswer};
+
+use crate::common::converter_suite::ConverterCalls;
+use crate::common::job_suite::JobCalls;
+use crate::common::matcher_suite::MatcherCalls;
+use crate::common::prepare_suite::PrepareCalls;
+use crate::common::report_suite::ReportCalls;
+use crate::common::table_buffers::LentTables;
+use crate::common::turn_suite::TurnCalls;
+
+pub struct Library;
+
+impl JobCalls for Library {
+    fn read_job(file: &[u8], pattern: &mut [u8], text: &mut [u8]) -> ReadAnswer {
+        calls::read_job(file, pattern, text)
+    }
+
+    fn write_job(hold: u32, pattern: &[u8], text: &[u8], file: &mut [u8]) -> WriteAnswer {
+        calls::write_job(hold, pattern, text, file)
+    }
+}
+
+impl PrepareCalls for Library {
+    fn prepare(pattern: &[u8], tables: LentTables) -> Answer {
+        calls::prepare(pattern, tables.order, tables.delta2, tables.delta1)
+    }
+}
+
+impl MatcherCalls for Library {
+    fn search(pattern: &[u8], text: &[u8], tables: LentTables, found: &mut [u16]) -> Answer {
+        calls::search(
+            pattern,
+            text,
+            tables.order,
+            tables.delta2,
+            tables.delta1,
+            found,
+        )
+    }
+}
+
+impl ConverterCalls for Library {
+    fn convert(
+        hold: u32,
+        pattern: &[u8],
+        text: &[u8],
+        tables: LentTables,
+        found: &mut [u16],
+        frames: &mut [u16],
+    ) -> Answer {
+        let LentTables {
+            order,
+            delta2,
+            delta1,
+        } = tables;
+        calls::convert(hold, pattern, text, order, delta2, delta1, found, frames)
+    }
+
+    fn count_ones(text: &[u8]) -> Answer {
+        calls::count_ones(text)
+    }
+}
+
+impl ReportCalls for Library {
+    fn seek_report(file: &[u8], out: &mut [u8]) -> ReportAnswer {
+        calls::seek_report(file, out)
+    }
+}
+
+impl TurnCalls for Library {
+    fn turn(
+        way: u32,
+        hold: u32,
+        pattern: &[u8],
+        text: &[u8],
+        turned_pattern: &mut [u8],
+        turned_text: &mut [u8],
+    ) -> TurnAnswer {
+        calls::turn(way, hold, pattern, text, turned_pattern, turned_text)
+    }
+}

@@ -1,0 +1,9 @@
+//! Turning a job by the library, written in Rattle, against the model.
+
+#[macro_use]
+mod common;
+mod library;
+
+use library::Library;
+
+turn_suite!(Library);
