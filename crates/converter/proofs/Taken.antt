@@ -41,6 +41,13 @@ module _ {m q n : ℕ} {l : TableLengths} {found frames : ℕ} where
         frames-room = ltb-false _ _ (room .1 .1 .0);
       }
 
+  -- where the limits are kept and the buffers have room, a text is converted
+  pub conversion-done : Conversion-taken m q n l found frames → convert-status m q n l found frames ≡ 0
+  unfolding convert-status job-refusals
+  conversion-done t =
+      none-done (job-refusals m q n ++ (table-refusal m l ∷ buffer-refusal found n ∷ buffer-refusal frames n ∷ []))
+      (limits-none m q n (t .limits) (t .tables-room, (le-ltb _ _ (t .found-room), (le-ltb _ _ (t .frames-room), tt))))
+
   -- the search of a conversion is taken
   pub search-taken : Conversion-taken m q n l found frames → search-status m n l found ≡ 0
   unfolding search-status

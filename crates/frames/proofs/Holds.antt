@@ -1,17 +1,18 @@
--- Exactly the frames b + q of the occurrences b are holds (`Holds-right`), each other frame is its byte, and the occurrences ascend inside the text.
--- By induction on the list of occurrences; an occurrence is a position of the run 0 to n that passes a test.
-use mathlib.Core.Bool.{true, false, cond}
+-- Exactly the frames b + q of the occurrences b are holds (`Holds-right`): frame i just where i - q is one. Each other frame is its byte, and the
+-- occurrences ascend inside the text. By induction on their list; an occurrence is a position of the run 0 to n that passes a test.
+use mathlib.Core.Bool.{Bool, true, false, _&&_, cond}
 use mathlib.Core.List.{List, [], _∷_, _++_, map}
 use mathlib.Core.Logic.{⊎-elim}
 use mathlib.Core.Path.{_≡_, refl, sym, _∙_}
 use Prim.Native.Nat.{ℕ, zero, suc, _+_, _-_, _≤_, _<_}
+use native.Mathlib.Nat.{eq-or-lt-of-le}
 use native.Mathlib.Omega.{arith}
-use borrow.Author.Tests.{eq-eqb, ne-eqb}
-use lib.Dec.{eqb}
+use borrow.Author.Tests.{le-leb, lt-leb, eq-eqb, ne-eqb}
+use lib.Dec.{leb, eqb}
 use lib.ListN.{length, getD, set, drop, length-set}
 use lib.Seq.{set-append-left, getD-set-same, getD-set-other}
 use Rattle.answers.specs.Buffers.{in-front}
-use Rattle.tables.proofs.Cases.{true-or-false, eq-or-ne}
+use Rattle.tables.proofs.Cases.{true-or-false, eq-or-ne, le-or-lt}
 use Rattle.tables.specs.Sets.{byte}
 use Rattle.steps.proofs.Occurrences.{occurs-inside}
 pub use Rattle.steps.proofs.Occurrences.{occurrences-few}
@@ -78,6 +79,47 @@ unfolding held-by
 held-before q low high i [] a h = refl
 held-before q low high i (b ∷ later) a h =
     rw (ne-eqb (b + q) i (λ e. omega arith)) (held-before q (suc b) high i later (a .2) (omega arith))
+
+-- the numbers of a run that pass, all below `high`
+module _ (q high : ℕ) (f : ℕ → Bool) (h : (k : ℕ) → f k ≡ true → k < high) where
+  before-passing : (n low i : ℕ) → i < low + q → held-by q (passing n low f) i ≡ false
+  before-passing n low i l = held-before q low high i (passing n low f) (passing-ascends n low high f h) l
+
+  -- where the run has all that pass from `low` on, b + q is held just where b passes
+  held-passing : (n low b : ℕ) → high ≤ low + n → low ≤ b → held-by q (passing n low f) (b + q) ≡ f b
+  unfolding passing held-by
+  held-passing zero low b u l = ⊎-elim (λ e. absurd (omega (arith, h b e))) sym (true-or-false (f b))
+  held-passing (suc n) low b u l =
+      let later = held-passing n (suc low) b (omega arith) in
+      let place = eq-or-lt-of-le l in
+      ⊎-elim
+      (λ y.
+      rw y
+      (⊎-elim
+      (λ e. rw (eq-eqb (low + q) (b + q) (omega arith)) (sym (rw e at y)))
+      (λ g. rw (ne-eqb (low + q) (b + q) (λ e. omega arith)) (later g))
+      place))
+      (λ y. rw y (⊎-elim (λ e. before-passing n (suc low) (b + q) (omega arith) ∙ sym (rw e at y)) later place))
+      (true-or-false (f low))
+
+-- i is b + q for an occurrence b just where i - q is one
+all-held-at :
+    (q i : ℕ) (f : ℕ → ℕ) (N : ℕ) (w : List ℕ) → held-by q (all-occurrences f N w) i ≡ leb q i && occurs f N w (i - q)
+unfolding all-occurrences
+all-held-at q i f N w =
+    let inside : (k : ℕ) → occurs f N w k ≡ true → k < suc N = λ k e. omega (arith, occurs-inside f N w k e) in
+    rw (occurrences-passing (suc N) 0 f N w)
+    (⊎-elim
+    (λ l.
+    let there : i - q + q ≡ i = omega arith in
+    let same = held-passing q (suc N) (occurs f N w) inside (suc N) 0 (i - q) (omega arith) (omega arith) in
+    rw (le-leb q i l) (rw there at same))
+    (λ l. rw (lt-leb q i l) (before-passing q (suc N) (occurs f N w) inside (suc N) 0 i (omega arith)))
+    (le-or-lt q i))
+
+pub held-at : (q i : ℕ) (w t : List ℕ) → held-by q (occurrences w t) i ≡ leb q i && occurs (shown t) (span w t) w (i - q)
+unfolding occurrences
+held-at q i w t = all-held-at q i (shown t) (span w t) w
 
 -- the numbers that are held, in a run that has them all
 held-listed :

@@ -12,6 +12,7 @@ ghost use Rattle.job.specs.Write.{Write-outcome};
 ghost use Rattle.matcher.specs.Search.{Search-outcome};
 ghost use Rattle.ones.specs.Ones.{count-answer};
 ghost use Rattle.report.specs.Report.{Report-outcome};
+ghost use Rattle.restore.specs.Restore.{Restore-outcome};
 ghost use Rattle.tables.specs.Buffers.{tables};
 ghost use Rattle.tables.specs.Prepare.{Prepare-outcome};
 ghost use Rattle.turn.specs.Turn.{Turn-outcome};
@@ -120,6 +121,19 @@ pub extern "C" fn turn(
         (now («turned_pattern» .entry)) (now («turned_pattern» .exit)) (now («turned_text» .entry)) (now («turned_text» .exit)) r ⌝ }
 {
     turn::turn(way, hold_offset, pattern, text, turned_pattern, turned_text)
+}
+
+// Puts frames back to the text (chain) that was converted, by its pattern (motif) and hold offset (hold place).
+#[no_mangle]
+pub extern "C" fn restore(
+    hold_offset: u32,
+    pattern: &[u8],
+    frames: &[u16],
+    text: &mut [u8],
+) -> Answer
+    ensures { λ r. ⌜ Restore-outcome «hold_offset» (now (pattern .entry)) (now (frames .entry)) (now (text .entry)) (now (text .exit)) r ⌝ }
+{
+    restore::restore(hold_offset, pattern, frames, text)
 }
 
 // Writes what SEEK prints for the job of a file.

@@ -1,6 +1,6 @@
--- Cases on a test, on two numbers, and on two tests that do not both hold.
+-- Cases on a test, on two numbers, on two tests that do not both hold, and on two that are compared.
 -- By the tests of the numbers, and by cases on the first test.
-use mathlib.Core.Bool.{Bool, true, false, _&&_, true≢false}
+use mathlib.Core.Bool.{Bool, true, false, _&&_, not, Bool·beq, true≢false}
 use mathlib.Core.Logic.{_≢_, _⊎_, inl, inr, ⊎-elim}
 use mathlib.Core.Path.{_≡_, refl, sym, _∙_}
 use Prim.Native.Nat.{ℕ, _≤_, _<_}
@@ -24,3 +24,16 @@ clash t p q = true≢false (sym p ∙ q)
 pub and-fails : (a b : Bool) → a && b ≡ false → (a ≡ false) ⊎ (b ≡ false)
 and-fails true b e = inr e
 and-fails false b e = inl refl
+
+-- two tests that are compared by a third
+pub unequal : (a b : Bool) → not (Bool·beq a b) ≡ true → a ≡ b → ⊥
+unequal true true e same = true≢false (sym e)
+unequal true false e same = true≢false same
+unequal false true e same = true≢false (sym same)
+unequal false false e same = true≢false (sym e)
+
+pub equal : (a b : Bool) → not (Bool·beq a b) ≡ false → a ≡ b
+equal true true e = refl
+equal true false e = absurd (true≢false e)
+equal false true e = absurd (true≢false e)
+equal false false e = refl

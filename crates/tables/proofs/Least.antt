@@ -1,6 +1,6 @@
 -- Laws of the least number that passes, of a run that passes, and of Pos and Neg, as propositions: after them no proof unfolds these.
 -- The runs by induction on their length; the sets by their tests.
-use mathlib.Core.Bool.{Bool, true, false, not, cond, true≢false, and-eq-true-iff}
+use mathlib.Core.Bool.{Bool, true, false, _&&_, not, cond, true≢false, and-eq-true-iff}
 use mathlib.Core.List.{List}
 use mathlib.Core.Logic.{_↔_, ⊎-elim}
 use mathlib.Core.Path.{_≡_, refl, sym, subst}
@@ -69,6 +69,15 @@ some-fails (suc n) i f e =
     (λ q. (i, omega arith, omega arith, q))
     (λ q. let (k, l, u, fails) = some-fails n (suc i) f q in (k, omega arith, omega arith, fails))
     (and-fails (f i) (all-from n (suc i) f) e)
+
+-- a run up to n, as a loop goes over it: nothing is left at n, and before it one number and then the rest
+pub run-over : (f : ℕ → Bool) (n x : ℕ) → n ≤ x → all-from (n - x) x f ≡ true
+unfolding all-from
+run-over f n x h = let none : n - x ≡ 0 = omega arith in rw none
+
+pub run-on : (f : ℕ → Bool) (n x : ℕ) → x < n → all-from (n - x) x f ≡ f x && all-from (n - suc x) (suc x) f
+unfolding all-from
+run-on f n x h = let some : n - x ≡ suc (n - suc x) = omega arith in rw some
 
 -- Pos and Neg at a position of the pattern are what Facts says of them
 pub pos-iff : (w : List ℕ) (c i k : ℕ) → (Pos w c (pos i) k ≡ true) ↔ In-pos w c i k

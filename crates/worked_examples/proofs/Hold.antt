@@ -32,6 +32,8 @@ use Rattle.converter.specs.Convert.{convert-status}
 use Rattle.mirror.specs.Mirrored.{reversed-bits, mirrored}
 use Rattle.turn.specs.Turn.{turn-status, turn-answer, turned-left}
 use Rattle.turn.specs.Turned.{turned-by, turned, turned-index}
+use Rattle.restore.specs.Restore.{restore-status, restored-left}
+use Rattle.conversions.specs.Restored.{restored, converts-again, is-conversion}
 use Rattle.printer.specs.Printed.{report-status, refused-report}
 use Rattle.report.specs.Report.{done-report, seek-report}
 use Rattle.worked_examples.specs.Examples.{a, bytes, Holds, examples, All, All-hold}
@@ -62,6 +64,7 @@ unfolding bytes Holds examples All All-hold
     agreeing align step alignments-from alignments compared is-occurrence comparisons-of listed comparisons
     with-holds frames ones ones-of line done-report seek-report
     reversed-bits mirrored turned-by turned turned-index turn-status turn-answer turned-left from-entry in-front
+    restored converts-again is-conversion restore-status restored-left
 examples-hold =
     (refl, (refl, (refl, tt)))
     then (refl, (refl, (refl, tt)))
@@ -83,4 +86,7 @@ examples-hold =
     then (refl, (refl, (refl, (refl, (refl, (refl, (refl, (refl, (refl, tt)))))))))
     then ((refl, refl), ((refl, refl), ((refl, refl), ((refl, refl), (refl, (refl, tt))))))
     then (refl, (refl, (refl, (refl, (refl, (refl, (refl, (refl, (refl, (refl, (refl, (refl, (refl, (refl, (refl, tt)))))))))))))))
+    then (refl, (record { answer = refl; text-left = refl }, (record { answer = refl; text-left = refl }, (record { answer = refl; text-left = refl }, (record { answer = refl; text-left = refl }, (refl, (refl, (refl, tt))))))))
+    then (refl, (refl, (refl, (refl, (refl, (refl, (refl, (refl, (refl, (record { answer = refl; text-left = refl }, (record { answer = refl; text-left = refl }, (record { answer = refl; text-left = refl }, (record { answer = refl; text-left = refl }, (record { answer = refl; text-left = refl }, (record { answer = refl; text-left = refl }, tt)))))))))))))))
+    then (record { answer = refl; text-left = refl }, (record { answer = refl; text-left = refl }, (record { answer = refl; text-left = refl }, (record { answer = refl; text-left = refl }, (record { answer = refl; text-left = refl }, (record { answer = refl; text-left = refl }, (refl, (refl, (refl, (refl, tt))))))))))
     then tt

@@ -26,6 +26,7 @@ use Rattle.converter.specs.Convert.{convert-status, convert-done}
 use Rattle.turn.specs.Turn.{turn-status, turn-answer, turned-left}
 use Rattle.turn.specs.Turned.{turned}
 use Rattle.turn.specs.declared.TurnAnswer.{TurnAnswer}
+use Rattle.restore.specs.Restore.{restore-status, Restore-outcome}
 use Rattle.printer.specs.Printed.{report-status}
 use Rattle.report.specs.Report.{seek-report}
 
@@ -57,6 +58,8 @@ pub data Claim : Type 0 where
   turning-gives : (way m q n pattern-len text-len : ℕ) → (status : ℕ) → Claim
   turning-leaves : (status way : ℕ) → (bytes buffer left : List ℕ) → Claim
   turn-answers-are : (given whole : TurnAnswer) → Claim
+  restoring-gives : (q : ℕ) → (w frames : List ℕ) → (text-len : ℕ) → (status : ℕ) → Claim
+  restoring-leaves : (q : ℕ) → (w frames text left : List ℕ) → (given : Answer) → Claim
 
 -- the bytes of what is written in quotes: each character's code
 unfoldable pub bytes : String → List ℕ
@@ -73,7 +76,7 @@ c = 0x18
 abbrev b : ℕ
 b = 0x01
 
--- what a claim says, each an equation with its definition. The occurrences (finds) are those by meaning, and the steps list the same
+-- what a claim says, each an equation with its definition, or a call's outcome by its equations. The occurrences (finds) are those by meaning, and the steps list the same
 unfoldable pub Holds : Claim → Type 0
 Holds (period-is w p) = period w ≡ p
 Holds (order-is w entries) = stored-order w ≡ entries
@@ -102,6 +105,8 @@ Holds (frames-are q w t these) = frames q w t ≡ these
 Holds (turning-gives way m q n pattern text status) = turn-status way m q n pattern text ≡ status
 Holds (turning-leaves s way bytes buffer left) = turned-left s way bytes buffer ≡ left
 Holds (turn-answers-are given whole) = given ≡ whole
+Holds (restoring-gives q w these text status) = restore-status q w these text ≡ status
+Holds (restoring-leaves q w these text left given) = Restore-outcome q w these text left given
 
 -- a row: its number, up to 10 that of document 01, and what it claims
 pub record Example : Type 0 where
@@ -141,6 +146,10 @@ aac = a ∷ a ∷ c ∷ []
 -- the listing of "What SEEK prints": its text (chain), the job file, and what is printed
 abbrev listing : List ℕ
 listing = a ∷ a ∷ c ∷ a ∷ a ∷ a ∷ c ∷ a ∷ a ∷ []
+
+-- its frames
+abbrev listing-frames : List ℕ
+listing-frames = a ∷ a ∷ 256 ∷ a ∷ a ∷ a ∷ 256 ∷ a ∷ a ∷ []
 
 abbrev listing-file : String
 listing-file = "0105020009\n06\n06\n18\n06\n06\n06\n06\n18\n06\n06\n06\n18\n06\n06\n"
@@ -326,6 +335,50 @@ examples =
     ∷ turning-gives 3 1 0 1 1 0 7
     ∷ turning-leaves 0 2 (b ∷ a ∷ []) (1 ∷ 2 ∷ 3 ∷ []) (a ∷ b ∷ 3 ∷ [])
     ∷ turning-leaves 8 2 (b ∷ a ∷ []) (1 ∷ 2 ∷ 3 ∷ []) (1 ∷ 2 ∷ 3 ∷ [])
+    ∷ [])
+    -- Document 02, "Back to cards": each hold becomes card w(q) again and each move its card. What is put back converts to the frames handed in.
+    -- Finds, looks and holes are 0, and what is past n in the buffer stays
+    ∷ row 21
+    (frames-are 2 aacaa listing listing-frames
+    ∷ restoring-leaves 2 aacaa listing-frames (replicate 10 1) (a ∷ a ∷ c ∷ a ∷ a ∷ a ∷ c ∷ a ∷ a ∷ 1 ∷ []) (answer 0 0 0 0)
+    ∷ restoring-leaves 1 aaaa (a ∷ 256 ∷ 256 ∷ 256 ∷ a ∷ a ∷ []) (replicate 6 1) (replicate 6 a) (answer 0 0 0 0)
+    ∷ restoring-leaves 0 (c ∷ []) (0xFF ∷ 0 ∷ 256 ∷ []) (replicate 3 1) (0xFF ∷ 0 ∷ c ∷ []) (answer 0 0 0 0)
+    ∷ restoring-leaves 0 aac [] (1 ∷ []) (1 ∷ []) (answer 0 0 0 0)
+    ∷ restoring-gives 0 aaaa (256 ∷ 256 ∷ 256 ∷ a ∷ a ∷ a ∷ []) 6 0
+    ∷ restoring-gives 3 aaaa (a ∷ a ∷ a ∷ 256 ∷ 256 ∷ 256 ∷ []) 6 0
+    ∷ restoring-gives 1 (a ∷ a ∷ []) (a ∷ []) 1 0
+    ∷ [])
+    -- Turned away: 9, frames that are no conversion under this motif and q: a hold without a find, where a find could have its hold and where none
+    -- could; a find without its hold; the holds of another q; numbers that are neither a move nor a hold. The buffer stays as it was
+    ∷ row 22
+    (restoring-gives 2 aacaa (256 ∷ a ∷ 256 ∷ a ∷ a ∷ a ∷ 256 ∷ a ∷ a ∷ []) 9 9
+    ∷ restoring-gives 2 aacaa (a ∷ a ∷ 256 ∷ 256 ∷ a ∷ a ∷ 256 ∷ a ∷ a ∷ []) 9 9
+    ∷ restoring-gives 2 aacaa (a ∷ a ∷ 256 ∷ a ∷ a ∷ a ∷ 256 ∷ a ∷ 256 ∷ []) 9 9
+    ∷ restoring-gives 2 aacaa (a ∷ a ∷ 256 ∷ a ∷ a ∷ a ∷ c ∷ a ∷ a ∷ []) 9 9
+    ∷ restoring-gives 2 aacaa listing 9 9
+    ∷ restoring-gives 1 aacaa listing-frames 9 9
+    ∷ restoring-gives 1 (a ∷ a ∷ []) (256 ∷ []) 1 9
+    ∷ restoring-gives 0 (a ∷ []) (512 ∷ []) 1 9
+    ∷ restoring-gives 0 (a ∷ []) (65535 ∷ []) 1 9
+    ∷ restoring-leaves 0 aac (256 ∷ a ∷ a ∷ []) (1 ∷ 2 ∷ 3 ∷ []) (1 ∷ 2 ∷ 3 ∷ []) (answer 9 0 0 0)
+    ∷ restoring-leaves 0 aac (a ∷ a ∷ c ∷ []) (1 ∷ 2 ∷ 3 ∷ []) (1 ∷ 2 ∷ 3 ∷ []) (answer 9 0 0 0)
+    ∷ restoring-leaves 1 aac (256 ∷ a ∷ c ∷ []) (1 ∷ 2 ∷ 3 ∷ []) (1 ∷ 2 ∷ 3 ∷ []) (answer 9 0 0 0)
+    ∷ restoring-leaves 0 aac (256 ∷ a ∷ c ∷ 256 ∷ []) (replicate 4 1) (replicate 4 1) (answer 9 0 0 0)
+    ∷ restoring-leaves 1 aaaa (a ∷ 256 ∷ 256 ∷ a ∷ a ∷ a ∷ []) (replicate 6 1) (replicate 6 1) (answer 9 0 0 0)
+    ∷ restoring-leaves 0 (c ∷ []) (257 ∷ []) (1 ∷ []) (1 ∷ []) (answer 9 0 0 0)
+    ∷ [])
+    -- The new buffer for cards needs n entries, under 7; 9 after 4 to 7. The first five meet every later condition too
+    ∷ row 23
+    (restoring-leaves 0 [] (replicate 16385 257) (1 ∷ []) (1 ∷ []) (answer 4 0 0 0)
+    ∷ restoring-leaves 129 (replicate 129 a) (replicate 16385 257) (1 ∷ []) (1 ∷ []) (answer 4 0 0 0)
+    ∷ restoring-leaves 1 (a ∷ []) (replicate 16385 257) (1 ∷ []) (1 ∷ []) (answer 5 0 0 0)
+    ∷ restoring-leaves 0 (a ∷ []) (replicate 16385 257) (1 ∷ []) (1 ∷ []) (answer 6 0 0 0)
+    ∷ restoring-leaves 0 (a ∷ []) (257 ∷ a ∷ []) (1 ∷ []) (1 ∷ []) (answer 7 0 0 0)
+    ∷ restoring-leaves 0 (a ∷ []) (256 ∷ c ∷ []) (1 ∷ []) (1 ∷ []) (answer 7 0 0 0)
+    ∷ restoring-gives 0 (a ∷ []) (256 ∷ c ∷ []) 2 0
+    ∷ restoring-gives 0 (a ∷ []) (replicate 16384 257) 16383 7
+    ∷ restoring-gives 4294967295 (a ∷ []) (257 ∷ []) 0 5
+    ∷ restoring-gives 127 (replicate 128 a) (256 ∷ []) 1 9
     ∷ [])
     ∷ []
 

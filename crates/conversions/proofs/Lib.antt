@@ -1,0 +1,2 @@
+pub mod Restored
+pub mod Walked

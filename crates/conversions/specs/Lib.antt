@@ -1,0 +1,3 @@
+pub mod Restored
+pub mod Walk
+pub mod Promises
