@@ -100,6 +100,16 @@ mod foreign {
             turned_text: *mut u8,
             turned_text_length: usize,
         ) -> TurnAnswer;
+
+        pub fn restore(
+            hold_offset: u32,
+            pattern: *const u8,
+            pattern_length: usize,
+            frames: *const u16,
+            frames_length: usize,
+            text: *mut u8,
+            text_length: usize,
+        ) -> Answer;
     }
 }
 
@@ -244,6 +254,21 @@ pub fn turn(
             turned_pattern.len(),
             turned_text.as_mut_ptr(),
             turned_text.len(),
+        )
+    }
+}
+
+pub fn restore(hold_offset: u32, pattern: &[u8], frames: &[u16], text: &mut [u8]) -> Answer {
+    // SAFETY: each pointer and length is that of a slice that stays borrowed during the call.
+    unsafe {
+        foreign::restore(
+            hold_offset,
+            pattern.as_ptr(),
+            pattern.len(),
+            frames.as_ptr(),
+            frames.len(),
+            text.as_mut_ptr(),
+            text.len(),
         )
     }
 }

@@ -19,6 +19,8 @@ pub enum Refusal {
     ShortBuffer,
     /// 8: a way of turning that is above 3.
     Way,
+    /// 9: frames that are no conversion under this pattern and hold offset.
+    NoConversion,
 }
 
 impl Refusal {
@@ -33,6 +35,7 @@ impl Refusal {
             Refusal::TextLength => 6,
             Refusal::ShortBuffer => 7,
             Refusal::Way => 8,
+            Refusal::NoConversion => 9,
         }
     }
 }

@@ -7,6 +7,7 @@
 use crate::answers::{Answer, ReadAnswer, Refusal, ReportAnswer, TurnAnswer, WriteAnswer};
 use crate::job::{check_hold, check_pattern_length, check_text_length, Job};
 use crate::job::{file_length, first_line, lines};
+use crate::restore::restored;
 use crate::tables::Tables;
 use crate::turn::{turned_job, Way};
 use crate::{convert, job, seek, steps};
@@ -341,4 +342,38 @@ fn try_turn(
         text: text.to_vec(),
     };
     Ok(turned_job(way, &job))
+}
+
+/// What restoring a text leaves.
+#[derive(Clone, Debug, Default, PartialEq, Eq)]
+pub struct RestoreOutcome {
+    pub answer: Answer,
+    pub text: Vec<u8>,
+}
+
+/// Restores the text that converts to these frames into a buffer.
+pub fn restore(hold: u32, pattern: &[u8], frames: &[u16], text_length: usize) -> RestoreOutcome {
+    match try_restore(hold, pattern, frames, text_length) {
+        Ok(text) => RestoreOutcome {
+            answer: Answer::default(),
+            text,
+        },
+        Err(refusal) => RestoreOutcome {
+            answer: refusal.into(),
+            ..RestoreOutcome::default()
+        },
+    }
+}
+
+fn try_restore(
+    hold: u32,
+    pattern: &[u8],
+    frames: &[u16],
+    text_length: usize,
+) -> Result<Vec<u8>, Refusal> {
+    check_pattern_length(pattern.len())?;
+    check_hold(hold as usize, pattern.len())?;
+    check_text_length(frames.len())?;
+    check_buffer(text_length, frames.len())?;
+    restored(pattern, hold as usize, frames)
 }

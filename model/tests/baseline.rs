@@ -11,6 +11,7 @@ use common::job_suite::JobCalls;
 use common::matcher_suite::MatcherCalls;
 use common::prepare_suite::PrepareCalls;
 use common::report_suite::ReportCalls;
+use common::restore_suite::RestoreCalls;
 use common::searches;
 use common::table_buffers::{entries, LentTables};
 use common::turn_suite::TurnCalls;
@@ -98,6 +99,12 @@ impl TurnCalls for Baseline {
     }
 }
 
+impl RestoreCalls for Baseline {
+    fn restore(hold: u32, pattern: &[u8], frames: &[u16], text: &mut [u8]) -> Answer {
+        baseline::restore::restore(hold, pattern, frames, text)
+    }
+}
+
 mod job {
     job_suite!(crate::Baseline);
 }
@@ -129,6 +136,10 @@ mod report {
 
 mod turn {
     turn_suite!(crate::Baseline);
+}
+
+mod restore {
+    restore_suite!(crate::Baseline);
 }
 
 /// What `memmem` and the plain scan find.

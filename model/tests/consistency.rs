@@ -1,10 +1,13 @@
 //! The model against itself: what the documents say of the definitions must hold of them.
 
+use std::collections::BTreeMap;
+
 use ruffarmoire_model::answers::Refusal;
 use ruffarmoire_model::calls::{self, TableLengths};
 use ruffarmoire_model::convert;
 use ruffarmoire_model::gen::{Random, Shape, SHAPES};
 use ruffarmoire_model::job::{self, Job};
+use ruffarmoire_model::restore::restored;
 use ruffarmoire_model::seek::seek;
 use ruffarmoire_model::steps::{bound, search_with, Search};
 use ruffarmoire_model::tables::{in_neg, in_pos, period, Tables};
@@ -413,4 +416,51 @@ fn jobs_turned() {
         check_turned(&SHAPES[round % SHAPES.len()].job(&mut random, m, n));
     }
     check_turned(&Shape::Planted.job(&mut random, 128, 16_384));
+}
+
+/// Frames over three bytes and the hold are put back just where some text over these bytes converts
+/// to them, and then to that text. The pattern is over two of the bytes.
+fn check_restored(pattern: &[u8], hold: usize, n: usize) {
+    let mut texts = BTreeMap::new();
+    for number in 0..3_usize.pow(n as u32) {
+        let text = word(number, 3, n);
+        texts.insert(convert::frames(pattern, hold, &text), text);
+    }
+    for number in 0..4_usize.pow(n as u32) {
+        let frames: Vec<u16> = word(number, 4, n)
+            .into_iter()
+            .map(|letter| match letter {
+                3 => convert::HOLD,
+                byte => byte.into(),
+            })
+            .collect();
+        let expected = texts.get(&frames).cloned().ok_or(Refusal::NoConversion);
+        assert_eq!(restored(pattern, hold, &frames), expected);
+    }
+}
+
+#[test]
+fn all_short_frames_restored() {
+    for m in 1..=4 {
+        for pattern_number in 0..1 << m {
+            for hold in 0..m {
+                for n in 0..=6 {
+                    check_restored(&word(pattern_number, 2, m), hold, n);
+                }
+            }
+        }
+    }
+}
+
+/// A text that is converted and put back is what it was.
+#[test]
+fn conversions_restored() {
+    let mut random = Random::seeded(10);
+    for round in 0..1_200 {
+        let (most_m, most_n) = if round % 4 == 0 { (128, 600) } else { (9, 40) };
+        let (m, n) = (random.between(1, most_m), random.between(0, most_n));
+        let job = SHAPES[round % SHAPES.len()].job(&mut random, m, n);
+        let frames = convert::frames(&job.pattern, job.hold, &job.text);
+        assert_eq!(restored(&job.pattern, job.hold, &frames), Ok(job.text));
+    }
 }

@@ -1,4 +1,5 @@
-//! The model on document 01's worked examples ("Marked swatches") and on SEEK's listing.
+//! The model on document 01's worked examples ("Marked swatches"), on SEEK's listing, and on examples
+//! of document 02.
 
 mod common;
 
@@ -176,4 +177,60 @@ fn slips_are_seen() {
     assert_eq!(convert::occurrences(&[A, A], &[A, A, A]), [0, 1]);
     assert_eq!(convert::frames(&[A, A], 1, &[A, A, A]), [6, 256, 256]);
     assert_eq!(convert::occurrences(&[A, A], &marked), []);
+}
+
+/// Document 02, "Back to cards": the listing's frames are put back to its text.
+#[test]
+fn frames_restored() {
+    let pattern = [A, A, C, A, A];
+    let restore = |hold: u32, pattern: &[u8], frames: &[u16]| {
+        let restored = calls::restore(hold, pattern, frames, frames.len());
+        (restored.answer.status, restored.text)
+    };
+    let listing = [6, 6, 256, 6, 6, 6, 256, 6, 6];
+    let text = vec![A, A, C, A, A, A, C, A, A];
+    assert_eq!(convert::frames(&pattern, 2, &text), listing);
+    assert_eq!(restore(2, &pattern, &listing), (0, text));
+    assert_eq!(restore(2, &pattern, &[]), (0, vec![]));
+    assert_eq!(restore(0, &[A], &[256]), (0, vec![A]));
+    assert_eq!(
+        restore(3, &[A; 4], &[6, 6, 6, 256, 256, 256]),
+        (0, vec![A; 6])
+    );
+    assert_eq!(restore(0, &[A], &[256, 0x18, 256]), (0, vec![A, C, A]));
+    assert_eq!(restore(0, &[A, A], &[6]), (0, vec![A]));
+
+    let refused = (9, vec![]);
+    // An occurrence without its hold.
+    assert_eq!(restore(2, &pattern, &[6, 6, 0x18, 6, 6]), refused);
+    assert_eq!(restore(3, &[A; 4], &[6, 6, 6, 256, 6, 256]), refused);
+    // A hold without its occurrence, or another offset's.
+    assert_eq!(restore(0, &[A, A], &[256]), refused);
+    assert_eq!(restore(1, &pattern, &listing), refused);
+    assert_eq!(restore(2, &[A; 4], &[6, 6, 6, 256, 256, 256]), refused);
+    // Numbers that are no frames.
+    assert_eq!(restore(0, &[A], &[257]), refused);
+    assert_eq!(restore(0, &[A], &[0x100 + 0x18]), refused);
+    assert_eq!(restore(0, &[A], &[0xFFFF]), refused);
+}
+
+/// 4 to 7 come before 9.
+#[test]
+fn refusals_of_restoring() {
+    let status = |hold: u32, m: usize, frame: u16, n: usize, text_length: usize| {
+        let restored = calls::restore(hold, &vec![A; m], &vec![frame; n], text_length);
+        restored.answer.status
+    };
+    assert_eq!(status(127, 128, 0x18, 16_384, 16_384), 0);
+    assert_eq!(status(127, 128, 257, 16_384, 16_384), 9);
+    assert_eq!(status(0, 1, 257, 16_384, 16_383), 7);
+    assert_eq!(status(0, 1, 0x18, 16_384, 16_383), 7);
+    assert_eq!(status(0, 1, 257, 16_385, 0), 6);
+    assert_eq!(status(1, 1, 257, 16_385, 0), 5);
+    assert_eq!(status(0, 0, 257, 16_385, 0), 4);
+    assert_eq!(status(0, 129, 0x18, 1, 1), 4);
+    assert_eq!(status(0, 1, 6, 1, 1), 9);
+    assert_eq!(status(0, 1, 256, 1, 1), 0);
+    let longer = calls::restore(0, &[A], &[256], 3);
+    assert_eq!(longer.text, [A]);
 }

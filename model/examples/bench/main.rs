@@ -21,15 +21,17 @@ mod calls;
 mod comparisons;
 mod prepare;
 mod program;
+mod restore;
 mod search;
 mod table_buffers;
 mod timing;
 mod turn;
 
 /// The parts, in the order in which they run.
-const PARTS: [(&str, fn()); 6] = [
+const PARTS: [(&str, fn()); 7] = [
     ("calls", calls::run),
     ("turn", turn::run),
+    ("restore", restore::run),
     ("prepare", prepare::run),
     ("search", search::run),
     ("program", program::run),

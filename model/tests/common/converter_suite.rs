@@ -4,13 +4,14 @@
 use std::marker::PhantomData;
 
 use ruffarmoire_model::answers::Answer;
-use ruffarmoire_model::calls::{self, Outcome};
+use ruffarmoire_model::calls::{self, Outcome, TableLengths};
 use ruffarmoire_model::gen::{Random, SHAPES};
+use ruffarmoire_model::job::Job;
 
 use super::examples::example_jobs;
 use super::harness::{reserved, shown};
 use super::searching::{check_exact, check_examples, Input, Lengths, Lent, SearchingCall};
-use super::table_buffers::LentTables;
+use super::table_buffers::{LentTables, TableBuffers};
 
 /// An implementation of converting and of counting ones.
 pub trait ConverterCalls {
@@ -68,6 +69,23 @@ impl<T: ConverterCalls> SearchingCall for Convert<T> {
         let outcome = calls::convert(hold, pattern, text, lengths.tables, lengths.found, frames);
         (outcome.answer, outcome)
     }
+}
+
+/// The answer of a conversion of a job within the limits, and its frames.
+pub fn converted<T: ConverterCalls>(job: &Job) -> (Answer, Vec<u16>) {
+    let (m, n) = (job.pattern.len(), job.text.len());
+    let [mut tables, _] = TableBuffers::fillings(m, TableLengths::needed(m));
+    let (mut found, mut frames) = (vec![0; n], vec![0; n]);
+    let answer = T::convert(
+        job.hold as u32,
+        &job.pattern,
+        &job.text,
+        tables.lent(),
+        &mut found,
+        &mut frames,
+    );
+    assert_eq!(answer.status, 0);
+    (answer, frames)
 }
 
 /// Counts ones and holds the answer to the model.

@@ -28,4 +28,6 @@ pub mod prepare_suite;
 #[macro_use]
 pub mod report_suite;
 #[macro_use]
+pub mod restore_suite;
+#[macro_use]
 pub mod turn_suite;

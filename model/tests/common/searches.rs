@@ -1,6 +1,7 @@
 //! Patterns and texts for searching and converting.
 
 use ruffarmoire_model::gen::{Random, Shape, SHAPES};
+use ruffarmoire_model::job::Job;
 
 use super::words::{structured_words, words};
 
@@ -77,4 +78,21 @@ pub fn about_as_long() -> impl Iterator<Item = Pair> {
         }
     }
     pairs.into_iter()
+}
+
+/// Jobs of every shape and size, with the first hold offset, the last, and any, in turn.
+pub fn jobs() -> impl Iterator<Item = Job> {
+    let pairs = short()
+        .chain(longer())
+        .chain(structured())
+        .chain(about_as_long())
+        .chain(largest());
+    pairs.enumerate().map(|(round, (pattern, text))| {
+        let m = pattern.len();
+        Job {
+            hold: [0, m - 1, round / 3 % m][round % 3],
+            pattern,
+            text,
+        }
+    })
 }

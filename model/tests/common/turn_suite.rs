@@ -10,7 +10,7 @@ use ruffarmoire_model::gen::{Random, Shape, SHAPES};
 use ruffarmoire_model::job::Job;
 use ruffarmoire_model::turn::{turned_frames, WAYS};
 
-use super::converter_suite::ConverterCalls;
+use super::converter_suite::{converted, ConverterCalls};
 use super::examples::example_jobs;
 use super::harness::{expect_front, reserved, shown, Buffer};
 use super::lengths::BufferLengths;
@@ -474,27 +474,9 @@ pub fn lengths_beyond_32_bits<T: TurnCalls>() {
     expect_front(text, &expected.turned_text);
 }
 
-/// Jobs for what is promised: of every shape and size, with the first hold offset, the last, and
-/// any, in turn.
-fn promised_jobs() -> impl Iterator<Item = Job> {
-    let pairs = searches::short()
-        .chain(searches::longer())
-        .chain(searches::structured())
-        .chain(searches::about_as_long())
-        .chain(searches::largest());
-    pairs.enumerate().map(|(round, (pattern, text))| {
-        let m = pattern.len();
-        Job {
-            hold: [0, m - 1, round / 3 % m][round % 3],
-            pattern,
-            text,
-        }
-    })
-}
-
 /// The same turn twice gives back the pattern, the hold offset and the text.
 pub fn the_same_turn_twice<T: TurnCalls>() {
-    for job in promised_jobs() {
+    for job in searches::jobs() {
         for way in 0..4 {
             assert_eq!(turned::<T>(way, &turned::<T>(way, &job)), job);
         }
@@ -516,7 +498,7 @@ fn occurrences<T: MatcherCalls>(job: &Job) -> Vec<u16> {
 /// is reversed n - m - b for each occurrence b.
 pub fn occurrences_of_turned_jobs<T: TurnCalls + MatcherCalls>() {
     let mut times = 0;
-    for job in promised_jobs() {
+    for job in searches::jobs() {
         let (m, n) = (job.pattern.len(), job.text.len());
         let found = occurrences::<T>(&job);
         let from_the_end: Vec<u16> = found.iter().rev().map(|b| (n - m) as u16 - b).collect();
@@ -532,27 +514,10 @@ pub fn occurrences_of_turned_jobs<T: TurnCalls + MatcherCalls>() {
     assert!(times > 1_000, "only {times} jobs with other occurrences");
 }
 
-/// The answer of a conversion, and its frames.
-fn converted<T: ConverterCalls>(job: &Job) -> (Answer, Vec<u16>) {
-    let (m, n) = (job.pattern.len(), job.text.len());
-    let [mut tables, _] = TableBuffers::fillings(m, TableLengths::needed(m));
-    let (mut found, mut frames) = (vec![0; n], vec![0; n]);
-    let answer = T::convert(
-        job.hold as u32,
-        &job.pattern,
-        &job.text,
-        tables.lent(),
-        &mut found,
-        &mut frames,
-    );
-    assert_eq!(answer.status, 0);
-    (answer, frames)
-}
-
 /// A turned job converts to the turned frames, with as many occurrences and ones, and its text has as
 /// many ones when they are counted alone.
 pub fn frames_of_turned_jobs<T: TurnCalls + ConverterCalls>() {
-    for job in promised_jobs() {
+    for job in searches::jobs() {
         let (answer, frames) = converted::<T>(&job);
         let counted = T::count_ones(&job.text);
         for (number, way) in WAYS.into_iter().enumerate() {

@@ -3,7 +3,7 @@
 use std::ops::Range;
 
 /// Every word over the given letters with one of the given lengths.
-pub fn words(letters: &[u8], lengths: Range<usize>) -> impl Iterator<Item = Vec<u8>> + '_ {
+pub fn words<T: Copy>(letters: &[T], lengths: Range<usize>) -> impl Iterator<Item = Vec<T>> + '_ {
     lengths.flat_map(move |length| {
         (0..letters.len().pow(length as u32)).map(move |number| {
             let mut rest = number;

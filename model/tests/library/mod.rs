@@ -10,6 +10,7 @@ use crate::common::job_suite::JobCalls;
 use crate::common::matcher_suite::MatcherCalls;
 use crate::common::prepare_suite::PrepareCalls;
 use crate::common::report_suite::ReportCalls;
+use crate::common::restore_suite::RestoreCalls;
 use crate::common::table_buffers::LentTables;
 use crate::common::turn_suite::TurnCalls;
 
@@ -82,5 +83,11 @@ impl TurnCalls for Library {
         turned_text: &mut [u8],
     ) -> TurnAnswer {
         calls::turn(way, hold, pattern, text, turned_pattern, turned_text)
+    }
+}
+
+impl RestoreCalls for Library {
+    fn restore(hold: u32, pattern: &[u8], frames: &[u16], text: &mut [u8]) -> Answer {
+        calls::restore(hold, pattern, frames, text)
     }
 }

@@ -1,10 +1,11 @@
 //! Plain Rust versions of the library's calls, each with the same contract, written for speed: the
 //! benchmark runs them beside the library, and the library's own tests are run on them too. Of the
-//! model they use only the answers and the limits.
+//! model they use only the answers, the limits and the number of a hold.
 
 pub mod converter;
 pub mod job;
 pub mod matcher;
 pub mod report;
+pub mod restore;
 pub mod tables;
 pub mod turn;
