@@ -3,7 +3,7 @@
 use Prim.Native.Nat.{ℕ, zero, suc}
 use Rattle.answers.specs.declared.Answer.{Answer}
 
--- an answer that works out none of finds, looks and holes: the status, and zeros
+-- an answer with none of finds, looks and holes: the status, and zeros
 abbrev pub status-only : (status : ℕ) → Answer
 status-only s = record { status = s; occurrences = 0; comparisons = 0; ones = 0 }
 

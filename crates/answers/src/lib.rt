@@ -17,7 +17,7 @@ pub struct Answer {
     pub ones: u32,
 }
 
-// The answer of a call that works out none of the three.
+// The answer of a call that answers none of the three.
 pub fn status_only(status: u32) -> Answer
     ensures { λ r. ⌜ r ≡ status-only status ⌝ }
 {

@@ -22,7 +22,8 @@ use Rattle.converter.specs.Within.{Frames-ready, Frames-written}
 
 -- as many entries as a search counts are the occurrences
 module _ {w t : List ℕ} {lent left : Tables} {found found' : List ℕ} {r : Answer} (searched : Search-outcome-of 0 w t lent left found found' r) where
-  counted : r .occurrences ≡ length (occurrences w t)
+  -- it answers their number
+  pub counted : r .occurrences ≡ length (occurrences w t)
   unfolding if-done answered
   counted = ap (λ (a : Answer). a .occurrences) (searched .answer)
 

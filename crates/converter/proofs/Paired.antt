@@ -6,7 +6,7 @@ use mathlib.Core.Path.{_≡_, refl, sym, _∙_, ap}
 use Prim.Native.Nat.{ℕ, suc, _+_, _≤_, _<_}
 use native.Mathlib.Omega.{arith}
 use lib.Dec.{eqb}
-use lib.ListN.{length, getD}
+use lib.ListN.{length, getD, take}
 use Rattle.answers.proofs.Answered.{done-only}
 use Rattle.answers.proofs.Bytes.{bytes-entry}
 use Rattle.answers.proofs.Fronts.{in-front-take}
@@ -88,12 +88,17 @@ module _ {w t : List ℕ} {c : Call} where
   unfolding comparisons occurrences Few-comparisons
   few h = rw (h .comparisons-counted) (few-comparisons (shown t) (span w t) w (h .nonempty))
 
+  -- a conversion that is taken leaves the frames in front of its buffer
+  pub frames-by : {q : ℕ} → Converts q w t c → Call-taken c → take (length t) (c .left .frames) ≡ frames q w t
+  unfolding if-done frames-left
+  frames-by {q} h e =
+      rw (h .moves-and-holds-left, done-only _ _ (h .answer) e)
+      (in-front-take (frames q w t) (c .lent .frames) (length t) (length-frames q w t))
+
   frames-right : {q : ℕ} → Converts q w t c → Call-taken c → Bytes t → frames-held (length t) c ≡ map (λ b. b + q) (occurrences w t)
-  unfolding if-done frames-held frames-left
+  unfolding frames-held
   frames-right {q} h e bytes =
-      let done = done-only _ _ (h .answer) e in
-      rw (h .moves-and-holds-left, done, in-front-take (frames q w t) (c .lent .frames) (length t) (length-frames q w t))
-      (frames-hold q w t (conversion-taken done .limits .hold-offset) bytes)
+      rw (frames-by h e) (frames-hold q w t (conversion-taken (done-only _ _ (h .answer) e) .limits .hold-offset) bytes)
 
 pub every-search-exact : Every-search-exact
 unfolding Every-search-exact holds-by

@@ -9,7 +9,7 @@ use native.Mathlib.Nat.{eq-or-lt-of-le}
 use native.Mathlib.Omega.{arith}
 use borrow.Author.Tests.{le-leb, lt-leb, eq-eqb, ne-eqb}
 use lib.Dec.{leb, eqb}
-use lib.ListN.{length, getD, set, drop, length-set}
+use lib.ListN.{length, getD, set, drop, length-set, length-map}
 use lib.Seq.{set-append-left, getD-set-same, getD-set-other}
 use Rattle.answers.specs.Buffers.{in-front}
 use Rattle.tables.proofs.Cases.{true-or-false, eq-or-ne, le-or-lt}
@@ -165,6 +165,11 @@ holds-listed q w t h bytes =
     let same = passing-same (length t) 0 (λ i. eqb (getD (frames q w t) i 0) hold) held in
     rw (length-frames q w t, same (λ k l u. frame-held q k w t bytes (omega arith)))
     (held-listed (length t) 0 q 0 (length t - q) (occurrences w t) (occurrences-hold q w t h) (omega arith) (omega arith))
+
+-- so there are as many holds as occurrences
+pub holds-counted :
+    (q : ℕ) (w t : List ℕ) → q < length w → ((k : ℕ) → byte t k < hold) → length (holds-of (frames q w t)) ≡ length (occurrences w t)
+holds-counted q w t h bytes = rw (holds-listed q w t h bytes) (length-map (occurrences w t) (λ b. b + q))
 
 -- holds inside the first of two lists are marked there
 with-holds-append :

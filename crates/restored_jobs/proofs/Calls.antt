@@ -10,9 +10,10 @@ use Rattle.answers.specs.Answers.{if-done, answered}
 use Rattle.answers.specs.declared.Answer.{Answer}
 use Rattle.frames.proofs.Holds.{length-frames}
 use Rattle.frames.specs.Frames.{frames}
+use Rattle.converter.proofs.Paired.{frames-by}
 use Rattle.converter.proofs.Taken.{conversion-taken, conversion-done}
-use Rattle.converter.specs.Convert.{frames-left, convert-status-of}
-use Rattle.converter.specs.Paired.{Call, Converts}
+use Rattle.converter.specs.Convert.{convert-status-of}
+use Rattle.converter.specs.Paired.{Call, Converts, Call-taken}
 use Rattle.conversions.proofs.Restored.{length-restored, converted-restored, restored-converted, frames-pass}
 use Rattle.restore.proofs.Taken.{restorable, restorable-done, status-of}
 use Rattle.conversions.specs.Promises.{Converted-restored, Restored-converted}
@@ -31,12 +32,10 @@ restored-to {q} {w} {gs} {text} o =
 converted-to :
     {q : ℕ} {w t : List ℕ} {c : Call} → convert-status-of q w t (c .lent .tables) (c .lent .found) (c .lent .frames) ≡ 0 →
     Converts q w t c → Converted-to (frames q w t) c
-unfolding answered if-done frames-left
+unfolding answered if-done
 converted-to {q} {w} {t} {c} done h =
-    record {
-      done = ap (λ (a : Answer). a .status) (rw done at (h .answer));
-      frames = rw (h .moves-and-holds-left, done) (in-front-take (frames q w t) (c .lent .frames) _ refl);
-    }
+    let taken : Call-taken c = ap (λ (a : Answer). a .status) (rw done at (h .answer)) in
+    record { done = taken; frames = rw length-frames (frames-by h taken) }
 
 pub calls-converted-restored : Calls-converted-restored
 unfolding Calls-converted-restored Converted-restored

@@ -3,6 +3,7 @@
 use answers::Answer;
 use job::ReadAnswer;
 use job::WriteAnswer;
+use price::PriceAnswer;
 use printer::ReportAnswer;
 use turn::TurnAnswer;
 ghost use mathlib.Core.Path.{_≡_};
@@ -11,6 +12,7 @@ ghost use Rattle.job.specs.Read.{Read-outcome};
 ghost use Rattle.job.specs.Write.{Write-outcome};
 ghost use Rattle.matcher.specs.Search.{Search-outcome};
 ghost use Rattle.ones.specs.Ones.{count-answer};
+ghost use Rattle.price.specs.Price.{Price-outcome};
 ghost use Rattle.report.specs.Report.{Report-outcome};
 ghost use Rattle.restore.specs.Restore.{Restore-outcome};
 ghost use Rattle.tables.specs.Buffers.{tables};
@@ -134,6 +136,24 @@ pub extern "C" fn restore(
     ensures { λ r. ⌜ Restore-outcome «hold_offset» (now (pattern .entry)) (now (frames .entry)) (now (text .entry)) (now (text .exit)) r ⌝ }
 {
     restore::restore(hold_offset, pattern, frames, text)
+}
+
+// Prices a text (chain) that is converted by a pattern (motif) and a hold offset (hold place), in pence.
+#[no_mangle]
+pub extern "C" fn price(
+    hold_offset: u32,
+    pattern: &[u8],
+    text: &[u8],
+    order: &mut [i16],
+    delta2: &mut [u16],
+    delta1: &mut [u16],
+    found: &mut [u16],
+) -> PriceAnswer
+    ensures { λ r. ⌜ Price-outcome «hold_offset» (now (pattern .entry)) (now (text .entry))
+        (tables (now (order .entry)) (now (delta2 .entry)) (now (delta1 .entry)))
+        (tables (now (order .exit)) (now (delta2 .exit)) (now (delta1 .exit))) (now (found .entry)) (now (found .exit)) r ⌝ }
+{
+    price::price(hold_offset, pattern, text, order, delta2, delta1, found)
 }
 
 // Writes what SEEK prints for the job of a file.

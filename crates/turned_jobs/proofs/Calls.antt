@@ -4,18 +4,15 @@ use mathlib.Core.Bool.{Bool, true, false, cond}
 use mathlib.Core.List.{List, map, reverse}
 use mathlib.Core.Path.{_≡_, refl, _∙_, ap}
 use Prim.Native.Nat.{ℕ, _-_, _<_}
-use lib.ListN.{length, take, length-map, length-reverse}
+use lib.ListN.{length, length-map, length-reverse}
 use Rattle.answers.proofs.Answered.{done-only}
-use Rattle.answers.proofs.Fronts.{in-front-take}
 use Rattle.answers.specs.Answers.{if-done, answered}
 use Rattle.answers.specs.Bytes.{Bytes}
 use Rattle.answers.specs.declared.Answer.{Answer}
 use Rattle.steps.specs.Occurrences.{occurrences}
-use Rattle.frames.proofs.Holds.{length-frames}
-use Rattle.frames.specs.Frames.{frames}
 use Rattle.ones.specs.Ones.{ones-of, count-answer}
-use Rattle.converter.proofs.Paired.{every-search-exact}
-use Rattle.converter.specs.Convert.{frames-left, convert-status-of}
+use Rattle.converter.proofs.Paired.{frames-by, every-search-exact}
+use Rattle.converter.specs.Convert.{convert-status-of}
 use Rattle.converter.specs.Paired.{Call, Converts, Call-taken, Search, Every-search-exact}
 use Rattle.turn.proofs.Calls.{turn-taken, turn-done}
 use Rattle.turn.proofs.Turned.{length-turned}
@@ -26,19 +23,12 @@ use Rattle.turned_jobs.proofs.Ones.{ones-turned}
 use Rattle.turned_jobs.specs.Calls.{Search-turned, Searches-turned, Counts-turned}
 use Rattle.turned_jobs.specs.Promises.{turned-positions, Occurrences-turned, Frames-turned, Ones-turned}
 
--- a conversion that is taken leaves the frames, and answers the ones
-module _ {q : ℕ} {w t : List ℕ} {c : Call} (h : Converts q w t c) (e : Call-taken c) where
-  done : convert-status-of q w t (c .lent .tables) (c .lent .found) (c .lent .frames) ≡ 0
-  done = done-only _ _ (h .answer) e
-
-  frames-by : (n : ℕ) → length t ≡ n → take n (c .left .frames) ≡ frames q w t
-  unfolding if-done frames-left
-  frames-by n size =
-      rw (h .moves-and-holds-left, done) (in-front-take (frames q w t) (c .lent .frames) n (length-frames q w t ∙ size))
-
-  ones-by : c .answer .ones ≡ ones-of t
-  unfolding if-done answered
-  ones-by = ap (λ (a : Answer). a .ones) (rw done at (h .answer))
+-- a conversion that is taken answers the ones
+ones-by : {q : ℕ} {w t : List ℕ} {c : Call} → Converts q w t c → Call-taken c → c .answer .ones ≡ ones-of t
+unfolding if-done answered
+ones-by {q} {w} {t} {c} h e =
+    let done : convert-status-of q w t (c .lent .tables) (c .lent .found) (c .lent .frames) ≡ 0 = done-only _ _ (h .answer) e in
+    ap (λ (a : Answer). a .ones) (rw done at (h .answer))
 
 -- turned, the positions are as many
 length-positions : (way m n : ℕ) (bs : List ℕ) → length (turned-positions way m n bs) ≡ length bs
@@ -65,7 +55,7 @@ alike way q w t hw ht inside c d s e s' e' =
       same-number =
           rw (x .occurrences-counted, y .occurrences-counted, same) (length-positions way (length w) (length t) (occurrences w t));
       frames-turned = λ h h'.
-          rw (frames-by h e (length t) refl, frames-by h' e' (length t) (length-turned way t)) (frames-turned way q w t hw ht inside);
+          rw (frames-by h e, rw length-turned at (frames-by h' e')) (frames-turned way q w t hw ht inside);
       same-ones = λ h h'. rw (ones-by h e, ones-by h' e') (ones-turned way t ht);
     }
 

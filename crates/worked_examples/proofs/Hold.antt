@@ -1,9 +1,14 @@
 -- The worked examples hold of the definitions.
--- Each claim is computed: both sides of its equation come to the same value. The longest jobs are taken by the law of files written and read.
-use mathlib.Core.Path.{_≡_, refl}
-use Prim.Native.Nat.{ℕ, _≤_, _<_}
+-- Each claim is computed: both sides of its equation come to the same value. The longest jobs go by the laws of written files and of equal bytes.
+use mathlib.Core.Bool.{true, false, _&&_, and-false}
+use mathlib.Core.List.{[], _∷_}
+use mathlib.Core.Logic.{⊎-elim}
+use mathlib.Core.Path.{_≡_, refl, _∙_}
+use Prim.Native.Nat.{ℕ, zero, suc, _+_, _≤_, _<_}
 use native.Mathlib.Omega.{arith}
+use borrow.Author.Tests.{lt-leb}
 use lib.Count.{ones}
+use lib.Dec.{leb, eqb}
 use lib.ListN.{replicate, length-replicate, getD-replicate}
 use Rattle.answers.proofs.Bytes.{each-byte}
 use Rattle.answers.specs.Answers.{if-done, answered}
@@ -18,14 +23,16 @@ use Rattle.job.specs.Promises.{Written-read}
 use Rattle.job.specs.Read.{read-status}
 use Rattle.job.specs.Write.{write-status}
 use Rattle.tables.specs.Least.{least-from, all-from}
+use Rattle.tables.proofs.Cases.{le-or-lt}
+use Rattle.tables.specs.Buffers.{tables-left}
 use Rattle.tables.specs.Prepare.{prepare-status}
-use Rattle.tables.specs.Sets.{Neg}
-use Rattle.tables.specs.Tables.{h-min, k-min, r-min, period, second-group-from, second-group, third-group-from, third-group, order, stored-order, Δ1, Δ2}
+use Rattle.tables.specs.Sets.{byte, Neg}
+use Rattle.tables.specs.Tables.{h-min, k-min, r-min, period, second-group-from, second-group, third-group-from, third-group, order, stored-order, Δ1, Δ2, stored-Δ1-from, stored-Δ1}
 use Rattle.steps.specs.Occurrences.{occurs, occurrences-from, all-occurrences, occurrences}
 use Rattle.steps.specs.Bound.{bound}
 use Rattle.steps.specs.Steps.{agreeing, align, step, alignments-from, alignments, compared, is-occurrence, comparisons-of, listed, comparisons}
 use Rattle.steps.specs.Text.{shown, span}
-use Rattle.matcher.specs.Search.{search-status}
+use Rattle.matcher.specs.Search.{search-status, found-left}
 use Rattle.frames.specs.Frames.{with-holds, frames}
 use Rattle.ones.specs.Ones.{ones-of, count-status, count-answer}
 use Rattle.converter.specs.Convert.{convert-status}
@@ -34,9 +41,12 @@ use Rattle.turn.specs.Turn.{turn-status, turn-answer, turned-left}
 use Rattle.turn.specs.Turned.{turned-by, turned, turned-index}
 use Rattle.restore.specs.Restore.{restore-status, restored-left}
 use Rattle.conversions.specs.Restored.{restored, converts-again, is-conversion}
+use Rattle.tariff.proofs.Cost.{cost-equal}
+use Rattle.tariff.specs.Tariff.{byte-price, sum-from, total, rebate, cost}
+use Rattle.price.specs.Price.{job-cost, price-status, price-answer}
 use Rattle.printer.specs.Printed.{report-status, refused-report}
 use Rattle.report.specs.Report.{done-report, seek-report}
-use Rattle.worked_examples.specs.Examples.{a, bytes, Holds, examples, All, All-hold}
+use Rattle.worked_examples.specs.Examples.{a, b, bytes, Holds, examples, All, All-hold}
 
 -- the first row's proof, then those of the rows below
 infixr 20 _then_
@@ -55,6 +65,23 @@ taken m q n hq hm hn =
     all-a : (k : ℕ) → Bytes (replicate k a)
     all-a k = each-byte (replicate k a) (λ i l. rw (getD-replicate k i a 0 (rw length-replicate at l)) (omega arith))
 
+-- a byte that a text of equal bytes does not have occurs nowhere in it, so the text's frames are its bytes
+none-occurs : (n c d count at : ℕ) → eqb c d ≡ false → occurrences-from count at (shown (replicate n c)) n (d ∷ []) ≡ []
+unfolding occurrences-from occurs all-from shown
+none-occurs n c d zero i e = refl
+none-occurs n c d (suc k) i e = rw (absent, none-occurs n c d k (suc i) e)
+  where
+    absent : leb (i + 1) n && (eqb (byte (replicate n c) (i + 0)) d && true) ≡ false
+    absent =
+        ⊎-elim
+        (λ past. rw (lt-leb (i + 1) n (omega arith)))
+        (λ inside. rw (getD-replicate n (i + 0) c 0 (omega arith), e) (and-false (leb (i + 1) n)))
+        (le-or-lt n i)
+
+job-none : (n c d q : ℕ) → eqb c d ≡ false → job-cost q (d ∷ []) (replicate n c) ≡ cost (replicate n c) (replicate n c)
+unfolding occurrences all-occurrences span frames with-holds
+job-none n c d q e = rw (length-replicate n c, none-occurs n c d (suc n) 0 e)
+
 pub examples-hold : All-hold examples
 unfolding bytes Holds examples All All-hold
     if-done answered count-answer first-of job-refusals is-digit digit-value digit digits all-digits number
@@ -65,6 +92,7 @@ unfolding bytes Holds examples All All-hold
     with-holds frames ones ones-of line done-report seek-report
     reversed-bits mirrored turned-by turned turned-index turn-status turn-answer turned-left from-entry in-front
     restored converts-again is-conversion restore-status restored-left
+    byte-price sum-from total rebate cost price-status price-answer tables-left stored-Δ1-from stored-Δ1 found-left
 examples-hold =
     (refl, (refl, (refl, tt)))
     then (refl, (refl, (refl, tt)))
@@ -89,4 +117,7 @@ examples-hold =
     then (refl, (record { answer = refl; text-left = refl }, (record { answer = refl; text-left = refl }, (record { answer = refl; text-left = refl }, (record { answer = refl; text-left = refl }, (refl, (refl, (refl, tt))))))))
     then (refl, (refl, (refl, (refl, (refl, (refl, (refl, (refl, (refl, (record { answer = refl; text-left = refl }, (record { answer = refl; text-left = refl }, (record { answer = refl; text-left = refl }, (record { answer = refl; text-left = refl }, (record { answer = refl; text-left = refl }, (record { answer = refl; text-left = refl }, tt)))))))))))))))
     then (record { answer = refl; text-left = refl }, (record { answer = refl; text-left = refl }, (record { answer = refl; text-left = refl }, (record { answer = refl; text-left = refl }, (record { answer = refl; text-left = refl }, (record { answer = refl; text-left = refl }, (refl, (refl, (refl, (refl, tt))))))))))
+    then (refl, (refl, (refl, (refl, (refl, (refl, (refl, (refl, (refl, (refl, (refl, (refl, (refl, (refl, (refl, tt)))))))))))))))
+    then (job-none 4097 0x00 b 0 refl ∙ cost-equal 4097 0x00 0x00, (cost-equal 4096 0x00 0x00, (cost-equal 4097 0x00 0x00, (cost-equal 4096 0x00 256, (cost-equal 4097 0x00 256, (cost-equal 16384 0xFF 256, (refl, (refl, (refl, (refl, (refl, (refl, tt))))))))))))
+    then (record { answer = refl; tables = refl; occurrences-left = refl }, (record { answer = refl; tables = refl; occurrences-left = refl }, (record { answer = refl; tables = refl; occurrences-left = refl }, (record { answer = refl; tables = refl; occurrences-left = refl }, (record { answer = refl; tables = refl; occurrences-left = refl }, (record { answer = refl; tables = refl; occurrences-left = refl }, (record { answer = refl; tables = refl; occurrences-left = refl }, (refl, (refl, (refl, (refl, (refl, (refl, (refl, (refl, (refl, (refl, (refl, (refl, (refl, tt))))))))))))))))))))
     then tt

@@ -1,6 +1,6 @@
 -- The worked examples: document 01's ten ("Marked swatches"), its edges and its orders of refusal, and what document 02 adds, as rows of one
 -- table, and the common statement that covers them. These are definitions.
-use mathlib.Core.List.{List, [], _∷_}
+use mathlib.Core.List.{List, [], _∷_, _++_}
 use mathlib.Core.Path.{_≡_}
 use Prim.Native.Char.{code}
 use Prim.Native.Nat.{ℕ}
@@ -12,7 +12,7 @@ use Rattle.answers.specs.declared.Answer.{Answer}
 use Rattle.job.specs.Job.{job-file, file-status}
 use Rattle.job.specs.Read.{read-status}
 use Rattle.job.specs.Write.{write-status}
-use Rattle.tables.specs.Buffers.{needed}
+use Rattle.tables.specs.Buffers.{Tables, tables, needed}
 use Rattle.tables.specs.Prepare.{prepare-status}
 use Rattle.tables.specs.Tables.{period, stored-order, Δ1, Δ2}
 use Rattle.tables.specs.declared.TableLengths.{TableLengths}
@@ -27,6 +27,9 @@ use Rattle.turn.specs.Turn.{turn-status, turn-answer, turned-left}
 use Rattle.turn.specs.Turned.{turned}
 use Rattle.turn.specs.declared.TurnAnswer.{TurnAnswer}
 use Rattle.restore.specs.Restore.{restore-status, Restore-outcome}
+use Rattle.tariff.specs.Tariff.{rebate, cost}
+use Rattle.price.specs.Price.{price-status, job-cost, Price-outcome}
+use Rattle.price.specs.declared.PriceAnswer.{PriceAnswer}
 use Rattle.printer.specs.Printed.{report-status}
 use Rattle.report.specs.Report.{seek-report}
 
@@ -60,6 +63,11 @@ pub data Claim : Type 0 where
   turn-answers-are : (given whole : TurnAnswer) → Claim
   restoring-gives : (q : ℕ) → (w frames : List ℕ) → (text-len : ℕ) → (status : ℕ) → Claim
   restoring-leaves : (q : ℕ) → (w frames text left : List ℕ) → (given : Answer) → Claim
+  job-costs : (q : ℕ) → (w t : List ℕ) → (pence : ℕ) → Claim
+  frames-cost : (t frames : List ℕ) → (pence : ℕ) → Claim
+  rebate-is : (n total : ℕ) → (pence : ℕ) → Claim
+  pricing-gives : (m q n : ℕ) → (lengths : TableLengths) → (found-len : ℕ) → (status : ℕ) → Claim
+  pricing-leaves : (q : ℕ) → (w t : List ℕ) → (lent left : Tables) → (found listed : List ℕ) → (given : PriceAnswer) → Claim
 
 -- the bytes of what is written in quotes: each character's code
 unfoldable pub bytes : String → List ℕ
@@ -73,7 +81,7 @@ a = 0x06
 abbrev c : ℕ
 c = 0x18
 
-abbrev b : ℕ
+abbrev pub b : ℕ
 b = 0x01
 
 -- what a claim says, each an equation with its definition, or a call's outcome by its equations. The occurrences (finds) are those by meaning, and the steps list the same
@@ -107,6 +115,11 @@ Holds (turning-leaves s way bytes buffer left) = turned-left s way bytes buffer 
 Holds (turn-answers-are given whole) = given ≡ whole
 Holds (restoring-gives q w these text status) = restore-status q w these text ≡ status
 Holds (restoring-leaves q w these text left given) = Restore-outcome q w these text left given
+Holds (job-costs q w t pence) = job-cost q w t ≡ pence
+Holds (frames-cost t gs pence) = cost t gs ≡ pence
+Holds (rebate-is n total pence) = rebate n total ≡ pence
+Holds (pricing-gives m q n l found status) = price-status m q n l found ≡ status
+Holds (pricing-leaves q w t lent left found listed given) = Price-outcome q w t lent left found listed given
 
 -- a row: its number, up to 10 that of document 01, and what it claims
 pub record Example : Type 0 where
@@ -130,6 +143,17 @@ answer s h C o = record { status = s; occurrences = h; comparisons = C; ones = o
 -- the same with the turned q
 abbrev turn-answered : (status q : ℕ) → TurnAnswer
 turn-answered s q = record { answer = answer s 0 0 0; q = q }
+
+-- the same with the pence
+abbrev price-answered : (status pence : ℕ) → PriceAnswer
+price-answered s p = record { answer = answer s 0 0 0; pence = p }
+
+-- buffers for the tables of a pattern of one byte, and one entry more in each: before a call, and with its tables
+abbrev lent-to-one : Tables
+lent-to-one = tables (pos 9 ∷ pos 9 ∷ pos 9 ∷ []) (9 ∷ 9 ∷ 9 ∷ []) (replicate 257 9)
+
+abbrev left-by-one : Tables
+left-by-one = tables (pos 0 ∷ negsuc 0 ∷ pos 9 ∷ []) (0 ∷ 1 ∷ 9 ∷ []) (replicate 256 1 ++ (9 ∷ []))
 
 abbrev aacaa : List ℕ
 aacaa = a ∷ a ∷ c ∷ a ∷ a ∷ []
@@ -379,6 +403,64 @@ examples =
     ∷ restoring-gives 0 (a ∷ []) (replicate 16384 257) 16383 7
     ∷ restoring-gives 4294967295 (a ∷ []) (257 ∷ []) 0 5
     ∷ restoring-gives 127 (replicate 128 a) (256 ∷ []) 1 9
+    ∷ [])
+    -- Document 02, "The card cutter's tariff": prices in pence for 0 to 8 holes are 3, 5, 6, 8, 9, 11, 12, 14, 15; a hold adds 40 to its card. The
+    -- listing in document 01 costs 134
+    ∷ row 24
+    (job-costs 2 aacaa listing 134
+    ∷ job-costs 0 aac (0x00 ∷ []) 3
+    ∷ job-costs 0 aac (0x80 ∷ []) 5
+    ∷ job-costs 0 aac (0x41 ∷ []) 6
+    ∷ job-costs 0 aac (0x07 ∷ []) 8
+    ∷ job-costs 0 aac (0xF0 ∷ []) 9
+    ∷ job-costs 0 aac (0x1F ∷ []) 11
+    ∷ job-costs 0 aac (0xFC ∷ []) 12
+    ∷ job-costs 0 aac (0x7F ∷ []) 14
+    ∷ job-costs 0 aac (0xFF ∷ []) 15
+    ∷ job-costs 0 aac (0x00 ∷ 0x01 ∷ 0x03 ∷ 0x07 ∷ 0x0F ∷ 0x1F ∷ 0x3F ∷ 0x7F ∷ 0xFF ∷ []) 83
+    ∷ job-costs 0 (0x00 ∷ []) (0x00 ∷ []) 43
+    ∷ job-costs 0 (0xFF ∷ []) (0x00 ∷ 0xFF ∷ []) 58
+    ∷ job-costs 3 aaaa (replicate 6 a) 156
+    ∷ job-costs 0 aac [] 0
+    ∷ [])
+    -- Above 4,096 cards a rebate of 5 in 100 of the total, rounded down to a penny, comes off: of the total with its holds
+    ∷ row 25
+    (job-costs 0 (b ∷ []) (replicate 4097 0x00) 11677
+    ∷ frames-cost (replicate 4096 0x00) (replicate 4096 0x00) 12288
+    ∷ frames-cost (replicate 4097 0x00) (replicate 4097 0x00) 11677
+    ∷ frames-cost (replicate 4096 0x00) (replicate 4096 256) 176128
+    ∷ frames-cost (replicate 4097 0x00) (replicate 4097 256) 167363
+    ∷ frames-cost (replicate 16384 0xFF) (replicate 16384 256) 856064
+    ∷ rebate-is 4096 901120 0
+    ∷ rebate-is 4097 19 0
+    ∷ rebate-is 4097 20 1
+    ∷ rebate-is 4097 39 1
+    ∷ rebate-is 4097 40 2
+    ∷ rebate-is 16384 901120 45056
+    ∷ [])
+    -- Tables and finds are left as searching leaves them; the answer has the pence, and 0 for finds, looks and holes; 4, 5, 6, 7. Of the refused ones
+    -- the first three meet every later condition too
+    ∷ row 26
+    (pricing-leaves 0 (c ∷ []) (c ∷ a ∷ c ∷ []) lent-to-one left-by-one (9 ∷ 9 ∷ 9 ∷ 9 ∷ []) (0 ∷ 2 ∷ 9 ∷ 9 ∷ []) (price-answered 0 98)
+    ∷ pricing-leaves 0 (c ∷ []) [] lent-to-one left-by-one (9 ∷ []) (9 ∷ []) (price-answered 0 0)
+    ∷ pricing-leaves 0 [] (replicate 16385 c) lent-to-one lent-to-one (9 ∷ []) (9 ∷ []) (price-answered 4 0)
+    ∷ pricing-leaves 1 (c ∷ []) (replicate 16385 c) lent-to-one lent-to-one (9 ∷ []) (9 ∷ []) (price-answered 5 0)
+    ∷ pricing-leaves 0 (c ∷ []) (replicate 16385 c) lent-to-one lent-to-one (9 ∷ []) (9 ∷ []) (price-answered 6 0)
+    ∷ pricing-leaves 0 (c ∷ []) (c ∷ c ∷ []) lent-to-one lent-to-one (9 ∷ []) (9 ∷ []) (price-answered 7 0)
+    ∷ pricing-leaves 0 (replicate 129 c) [] lent-to-one lent-to-one (9 ∷ []) (9 ∷ []) (price-answered 4 0)
+    ∷ pricing-gives 128 127 16384 (needed 128) 16384 0
+    ∷ pricing-gives 128 0 0 (needed 128) 0 0
+    ∷ pricing-gives 5 4 1 (needed 5) 1 0
+    ∷ pricing-gives 129 0 0 (needed 129) 0 4
+    ∷ pricing-gives 0 0 16385 no-room 0 4
+    ∷ pricing-gives 1 4294967295 16385 no-room 0 5
+    ∷ pricing-gives 1 0 16385 no-room 0 6
+    ∷ pricing-gives 1 0 1 no-room 0 7
+    ∷ pricing-gives 1 0 1 (room 1 2 256) 1 7
+    ∷ pricing-gives 1 0 1 (room 2 1 256) 1 7
+    ∷ pricing-gives 1 0 1 (room 2 2 255) 1 7
+    ∷ pricing-gives 1 0 1 (room 2 2 256) 0 7
+    ∷ pricing-gives 1 0 1 (room 2 2 256) 1 0
     ∷ [])
     ∷ []
 
