@@ -9,10 +9,12 @@ compile_error!(
     "target/staticlib/libruffarmoire.a is missing. Run `rt staticlib ruffarmoire` at the repository's root first."
 );
 
-use ruffarmoire_model::answers::{Answer, ReadAnswer, ReportAnswer, TurnAnswer, WriteAnswer};
+use ruffarmoire_model::answers::{
+    Answer, PriceAnswer, ReadAnswer, ReportAnswer, TurnAnswer, WriteAnswer,
+};
 
 mod foreign {
-    use super::{Answer, ReadAnswer, ReportAnswer, TurnAnswer, WriteAnswer};
+    use super::{Answer, PriceAnswer, ReadAnswer, ReportAnswer, TurnAnswer, WriteAnswer};
 
     #[link(name = "ruffarmoire", kind = "static")]
     extern "C" {
@@ -110,6 +112,22 @@ mod foreign {
             text: *mut u8,
             text_length: usize,
         ) -> Answer;
+
+        pub fn price(
+            hold_offset: u32,
+            pattern: *const u8,
+            pattern_length: usize,
+            text: *const u8,
+            text_length: usize,
+            order: *mut i16,
+            order_length: usize,
+            delta2: *mut u16,
+            delta2_length: usize,
+            delta1: *mut u16,
+            delta1_length: usize,
+            found: *mut u16,
+            found_length: usize,
+        ) -> PriceAnswer;
     }
 }
 
@@ -269,6 +287,35 @@ pub fn restore(hold_offset: u32, pattern: &[u8], frames: &[u16], text: &mut [u8]
             frames.len(),
             text.as_mut_ptr(),
             text.len(),
+        )
+    }
+}
+
+pub fn price(
+    hold_offset: u32,
+    pattern: &[u8],
+    text: &[u8],
+    order: &mut [i16],
+    delta2: &mut [u16],
+    delta1: &mut [u16],
+    found: &mut [u16],
+) -> PriceAnswer {
+    // SAFETY: each pointer and length is that of a slice that stays borrowed during the call.
+    unsafe {
+        foreign::price(
+            hold_offset,
+            pattern.as_ptr(),
+            pattern.len(),
+            text.as_ptr(),
+            text.len(),
+            order.as_mut_ptr(),
+            order.len(),
+            delta2.as_mut_ptr(),
+            delta2.len(),
+            delta1.as_mut_ptr(),
+            delta1.len(),
+            found.as_mut_ptr(),
+            found.len(),
         )
     }
 }

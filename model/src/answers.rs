@@ -94,6 +94,15 @@ pub struct TurnAnswer {
     pub q: u32,
 }
 
+/// What pricing a job answers.
+#[repr(C)]
+#[derive(Clone, Copy, Debug, Default, PartialEq, Eq)]
+pub struct PriceAnswer {
+    pub answer: Answer,
+    /// The price, in pence.
+    pub pence: u32,
+}
+
 /// A refused answer holds the refusal and zeros elsewhere.
 impl From<Refusal> for Answer {
     fn from(refusal: Refusal) -> Answer {
@@ -136,6 +145,15 @@ impl From<Refusal> for TurnAnswer {
         TurnAnswer {
             answer: refusal.into(),
             ..TurnAnswer::default()
+        }
+    }
+}
+
+impl From<Refusal> for PriceAnswer {
+    fn from(refusal: Refusal) -> PriceAnswer {
+        PriceAnswer {
+            answer: refusal.into(),
+            ..PriceAnswer::default()
         }
     }
 }

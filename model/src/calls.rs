@@ -4,13 +4,15 @@
 //! the entries that it puts at the front of it; entries past those keep what they held. A refused
 //! call puts no entry into any buffer.
 
-use crate::answers::{Answer, ReadAnswer, Refusal, ReportAnswer, TurnAnswer, WriteAnswer};
+use crate::answers::{
+    Answer, PriceAnswer, ReadAnswer, Refusal, ReportAnswer, TurnAnswer, WriteAnswer,
+};
 use crate::job::{check_hold, check_pattern_length, check_text_length, Job};
 use crate::job::{file_length, first_line, lines};
 use crate::restore::restored;
 use crate::tables::Tables;
 use crate::turn::{turned_job, Way};
-use crate::{convert, job, seek, steps};
+use crate::{convert, job, price, seek, steps};
 
 /// Refusal 7 for one buffer.
 fn check_buffer(length: usize, needed: usize) -> Result<(), Refusal> {
@@ -376,4 +378,52 @@ fn try_restore(
     check_text_length(frames.len())?;
     check_buffer(text_length, frames.len())?;
     restored(pattern, hold as usize, frames)
+}
+
+/// What pricing a job leaves.
+#[derive(Clone, Debug, Default, PartialEq, Eq)]
+pub struct PriceOutcome {
+    pub answer: PriceAnswer,
+    /// What searching leaves in the buffers. The answer in it is the one without the pence.
+    pub left: Outcome,
+}
+
+/// Prices a job: its text with the frames that it converts to.
+pub fn price(
+    hold: u32,
+    pattern: &[u8],
+    text: &[u8],
+    lengths: TableLengths,
+    occurrences_length: usize,
+) -> PriceOutcome {
+    match try_price(hold, pattern, text, lengths, occurrences_length) {
+        Ok(outcome) => outcome,
+        Err(refusal) => PriceOutcome {
+            answer: refusal.into(),
+            left: refusal.into(),
+        },
+    }
+}
+
+fn try_price(
+    hold: u32,
+    pattern: &[u8],
+    text: &[u8],
+    lengths: TableLengths,
+    occurrences_length: usize,
+) -> Result<PriceOutcome, Refusal> {
+    check_pattern_length(pattern.len())?;
+    check_hold(hold as usize, pattern.len())?;
+    let searched = try_search(pattern, text, lengths, occurrences_length)?;
+    let frames = convert::frames(pattern, hold as usize, text);
+    Ok(PriceOutcome {
+        answer: PriceAnswer {
+            answer: Answer::default(),
+            pence: price::cost(text, &frames),
+        },
+        left: Outcome {
+            answer: Answer::default(),
+            ..searched
+        },
+    })
 }

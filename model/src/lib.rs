@@ -1,10 +1,10 @@
-//! A plain model of document 01 and of document 02's requests U1 and U2, written from these documents
-//! alone.
+//! A plain model of document 01 and of document 02's requests U1, U2 and U3, written from these
+//! documents alone.
 //!
 //! It follows the definitions word by word and takes no short cuts: the tables by their sets, the
 //! occurrences by their meaning, the search by its steps with every comparison written down, a
-//! mirrored byte by its bits, frames put back by converting again. It shares no code and no table with
-//! the library that it is compared with.
+//! mirrored byte by its bits, frames put back by converting again, a price byte by byte over the
+//! frames. It shares no code and no table with the library that it is compared with.
 //!
 //! The documents have trade words for the things of this field. Here they go by the field's names:
 //!
@@ -39,6 +39,7 @@ pub mod calls;
 pub mod convert;
 pub mod gen;
 pub mod job;
+pub mod price;
 pub mod restore;
 pub mod seek;
 pub mod steps;

@@ -10,12 +10,15 @@ use common::converter_suite::ConverterCalls;
 use common::job_suite::JobCalls;
 use common::matcher_suite::MatcherCalls;
 use common::prepare_suite::PrepareCalls;
+use common::price_suite::PriceCalls;
 use common::report_suite::ReportCalls;
 use common::restore_suite::RestoreCalls;
 use common::searches;
 use common::table_buffers::{entries, LentTables};
 use common::turn_suite::TurnCalls;
-use ruffarmoire_model::answers::{Answer, ReadAnswer, ReportAnswer, TurnAnswer, WriteAnswer};
+use ruffarmoire_model::answers::{
+    Answer, PriceAnswer, ReadAnswer, ReportAnswer, TurnAnswer, WriteAnswer,
+};
 use ruffarmoire_model::convert;
 
 struct Baseline;
@@ -105,6 +108,23 @@ impl RestoreCalls for Baseline {
     }
 }
 
+impl PriceCalls for Baseline {
+    fn price(
+        hold: u32,
+        pattern: &[u8],
+        text: &[u8],
+        tables: LentTables,
+        found: &mut [u16],
+    ) -> PriceAnswer {
+        let LentTables {
+            order,
+            delta2,
+            delta1,
+        } = tables;
+        baseline::price::price(hold, pattern, text, order, delta2, delta1, found)
+    }
+}
+
 mod job {
     job_suite!(crate::Baseline);
 }
@@ -140,6 +160,10 @@ mod turn {
 
 mod restore {
     restore_suite!(crate::Baseline);
+}
+
+mod price {
+    price_suite!(crate::Baseline);
 }
 
 /// What `memmem` and the plain scan find.

@@ -7,6 +7,7 @@ use ruffarmoire_model::calls::{self, TableLengths};
 use ruffarmoire_model::convert;
 use ruffarmoire_model::gen::{Random, Shape, SHAPES};
 use ruffarmoire_model::job::{self, Job};
+use ruffarmoire_model::price::{cost, rebate, total};
 use ruffarmoire_model::restore::restored;
 use ruffarmoire_model::seek::seek;
 use ruffarmoire_model::steps::{bound, search_with, Search};
@@ -462,5 +463,76 @@ fn conversions_restored() {
         let job = SHAPES[round % SHAPES.len()].job(&mut random, m, n);
         let frames = convert::frames(&job.pattern, job.hold, &job.text);
         assert_eq!(restored(&job.pattern, job.hold, &frames), Ok(job.text));
+    }
+}
+
+/// Before the rebate a job costs what its bytes cost without holds, and 40 for each occurrence, with
+/// any hold offset.
+fn check_total(pattern: &[u8], text: &[u8]) {
+    let moves: Vec<u16> = text.iter().map(|&byte| byte.into()).collect();
+    let holds = convert::occurrences(pattern, text).len() as u32;
+    let expected = total(text, &moves) + 40 * holds;
+    for hold in 0..pattern.len() {
+        let frames = convert::frames(pattern, hold, text);
+        assert_eq!(total(text, &frames), expected, "{pattern:?}, {text:?}");
+    }
+}
+
+#[test]
+fn totals_by_occurrences() {
+    for m in 1..=4 {
+        for pattern_number in 0..1 << m {
+            for n in 0..=8 {
+                for text_number in 0..1 << n {
+                    check_total(&word(pattern_number, 2, m), &word(text_number, 2, n));
+                }
+            }
+        }
+    }
+    let mut random = Random::seeded(11);
+    for round in 0..600 {
+        let (most_m, most_n) = if round % 8 == 0 { (128, 600) } else { (9, 40) };
+        let (m, n) = (random.between(1, most_m), random.between(0, most_n));
+        let (pattern, text) = SHAPES[round % SHAPES.len()].pattern_and_text(&mut random, m, n);
+        check_total(&pattern, &text);
+    }
+    let (pattern, text) = Shape::Planted.pattern_and_text(&mut random, 5, 16_384);
+    check_total(&pattern, &text);
+}
+
+/// The rebate is the most whole pence that are no more than 5 in 100, for every total that there can
+/// be.
+#[test]
+fn rebates() {
+    for total in 0..=55 * 16_384 {
+        for n in [0, 1, 4_095, 4_096] {
+            assert_eq!(rebate(n, total), 0);
+        }
+        for n in [4_097, 16_384] {
+            let rebate = rebate(n, total);
+            assert!(100 * rebate <= 5 * total && 5 * total < 100 * (rebate + 1));
+        }
+    }
+}
+
+/// Of the job's total the rebate comes off, and only that.
+#[test]
+fn costs_with_and_without_a_rebate() {
+    let mut random = Random::seeded(12);
+    for shape in SHAPES {
+        for n in [0, 1, 4_095, 4_096, 4_097, 16_384] {
+            let job = shape.job(&mut random, 3, n);
+            let frames = convert::frames(&job.pattern, job.hold, &job.text);
+            let total = total(&job.text, &frames);
+            let expected = if n <= 4_096 {
+                total
+            } else {
+                total - total / 20
+            };
+            assert_eq!(cost(&job.text, &frames), expected);
+            let lengths = TableLengths::needed(3);
+            let priced = calls::price(job.hold as u32, &job.pattern, &job.text, lengths, n);
+            assert_eq!(priced.answer.pence, expected);
+        }
     }
 }

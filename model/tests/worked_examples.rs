@@ -4,11 +4,12 @@
 mod common;
 
 use common::lengths::BufferLengths;
+use ruffarmoire_model::answers::Answer;
 use ruffarmoire_model::calls::{self, TableLengths};
 use ruffarmoire_model::job::{self, Job};
 use ruffarmoire_model::steps::{bound, search};
 use ruffarmoire_model::tables::{delta1, period, Tables};
-use ruffarmoire_model::{convert, seek};
+use ruffarmoire_model::{convert, price, seek};
 
 const A: u8 = 0x06;
 const B: u8 = 0x01;
@@ -233,4 +234,86 @@ fn refusals_of_restoring() {
     assert_eq!(status(0, 1, 256, 1, 1), 0);
     let longer = calls::restore(0, &[A], &[256], 3);
     assert_eq!(longer.text, [A]);
+}
+
+/// The price of a job within the limits, which stands beside zeros.
+fn priced(hold: u32, pattern: &[u8], text: &[u8]) -> u32 {
+    let lengths = TableLengths::needed(pattern.len());
+    let priced = calls::price(hold, pattern, text, lengths, text.len());
+    assert_eq!(priced.answer.answer, Answer::default());
+    assert_eq!(priced.left.answer, Answer::default());
+    priced.answer.pence
+}
+
+/// Document 02, "The card cutter's tariff": what the listing costs, and the other worked examples.
+#[test]
+fn prices() {
+    let pattern = [A, A, C, A, A];
+    let text = [A, A, C, A, A, A, C, A, A];
+    assert_eq!(priced(2, &pattern, &text), 134);
+    assert_eq!(price::cost(&text, &[6, 6, 256, 6, 6, 6, 256, 6, 6]), 134);
+    assert_eq!(price::cost(&text, &[6, 6, 0x18, 6, 6, 6, 0x18, 6, 6]), 54);
+    assert_eq!(priced(2, &pattern, &[]), 0);
+    assert_eq!(priced(0, &[A], &[A]), 46);
+    assert_eq!(priced(3, &[A; 4], &[A; 6]), 156);
+    assert_eq!(priced(0, &[A], &[A, C, A]), 98);
+    assert_eq!(priced(1, &[A, A], &[A]), 6);
+    assert_eq!(priced(0, &[A], &[0xFF, 0x00]), 18);
+}
+
+/// The prices of 0 to 8 ones, without a hold and with one.
+#[test]
+fn prices_by_ones() {
+    let bytes = [0x00, 0x01, 0x03, 0x07, 0x0F, 0x1F, 0x3F, 0x7F, 0xFF];
+    let moved = bytes.map(|byte| priced(0, &[!byte], &[byte]));
+    assert_eq!(moved, [3, 5, 6, 8, 9, 11, 12, 14, 15]);
+    let held = bytes.map(|byte| priced(0, &[byte], &[byte]));
+    assert_eq!(held, [43, 45, 46, 48, 49, 51, 52, 54, 55]);
+}
+
+/// The rebate: above 4,096 bytes, of the whole total, rounded down.
+#[test]
+fn prices_with_a_rebate() {
+    assert_eq!(priced(0, &[C], &[A; 4_096]), 24_576);
+    assert_eq!(priced(0, &[C], &[A; 4_097]), 24_582 - 1_229);
+    assert_eq!(priced(0, &[A], &[A; 4_096]), 188_416);
+    assert_eq!(priced(0, &[A], &[A; 4_097]), 188_462 - 9_423);
+    // 5 in 100 of 104,454 are 5,222 and 70 hundredths.
+    let text: Vec<u8> = [A, B].into_iter().cycle().take(4_097).collect();
+    assert_eq!(priced(1, &[A, B], &text), 104_454 - 5_222);
+    // The dearest job that is taken.
+    assert_eq!(priced(0, &[0xFF], &[0xFF; 16_384]), 901_120 - 45_056);
+}
+
+/// 4 to 7 in their order. A refused call gives no price and leaves no table.
+#[test]
+fn refusals_of_pricing() {
+    let enough = TableLengths::needed(128);
+    let status = |hold: u32, m: usize, n: usize, lengths, occurrences| {
+        let priced = calls::price(hold, &vec![A; m], &vec![C; n], lengths, occurrences);
+        let status = priced.answer.answer.status;
+        assert_eq!(priced.left.answer, priced.answer.answer);
+        assert_eq!(priced.left.order.is_empty(), status != 0);
+        assert_eq!(priced.answer.pence == 0, status != 0);
+        status
+    };
+    assert_eq!(status(0, 0, 1, enough, 1), 4);
+    assert_eq!(status(127, 128, 1, enough, 1), 0);
+    assert_eq!(status(0, 129, 1, enough, 1), 4);
+    assert_eq!(status(3, 4, 1, enough, 1), 0);
+    assert_eq!(status(4, 4, 1, enough, 1), 5);
+    assert_eq!(status(0, 1, 16_384, enough, 16_384), 0);
+    assert_eq!(status(0, 1, 16_385, enough, 16_385), 6);
+    assert_eq!(status(0, 1, 2, enough, 1), 7);
+    for m in [1, 5, 128] {
+        let exact = TableLengths::needed(m);
+        for short in exact.one_too_short(exact) {
+            assert_eq!(status(0, m, 1, short, 1), 7);
+        }
+    }
+    let none = enough.changed(|_| 0);
+    assert_eq!(status(0, 0, 16_385, none, 0), 4);
+    assert_eq!(status(1, 1, 16_385, none, 0), 5);
+    assert_eq!(status(0, 1, 16_385, none, 0), 6);
+    assert_eq!(status(0, 1, 16_384, none, 0), 7);
 }

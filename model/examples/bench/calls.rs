@@ -1,5 +1,5 @@
-//! Each call but preparing, searching, turning and restoring on the largest job, beside its plain
-//! Rust version.
+//! Each call but preparing, searching, turning, restoring and pricing on the largest job, beside its
+//! plain Rust version.
 
 use std::hint::black_box;
 

@@ -20,6 +20,7 @@ mod baseline;
 mod calls;
 mod comparisons;
 mod prepare;
+mod price;
 mod program;
 mod restore;
 mod search;
@@ -28,10 +29,11 @@ mod timing;
 mod turn;
 
 /// The parts, in the order in which they run.
-const PARTS: [(&str, fn()); 7] = [
+const PARTS: [(&str, fn()); 8] = [
     ("calls", calls::run),
     ("turn", turn::run),
     ("restore", restore::run),
+    ("price", price::run),
     ("prepare", prepare::run),
     ("search", search::run),
     ("program", program::run),

@@ -51,7 +51,7 @@ pub fn run() {
 }
 
 /// A pattern and a text.
-type Pair = (Vec<u8>, Vec<u8>);
+pub type Pair = (Vec<u8>, Vec<u8>);
 
 fn print(kind: Kind, m: usize, pairs: &[Pair]) {
     let buffers = RefCell::new(Buffers::needed(m));
@@ -67,7 +67,7 @@ fn print(kind: Kind, m: usize, pairs: &[Pair]) {
             .map(|call: Search| [searching(call, N), searching(call, N / 2)]),
     )
     .map(|half| 2.0 * half);
-    let comparisons = comparisons(pairs) as f64 / PAIRS as f64;
+    let comparisons = comparisons(pairs, N) as f64 / PAIRS as f64;
     println!(
         "{m:4} {:24} | {rattle:8.1} {rust:8.1} {memmem:8.1} {scan:8.1} {:12.2} {:14.2} {:12.2} | \
          {rattle_apart:8.1} {rust_apart:8.1} {:12.2} {:14.2}",
@@ -148,13 +148,13 @@ type Search = fn(&[u8], &[u8], &mut [i16], &mut [u16], &mut [u16], &mut [u16]) -
 type Find = fn(&[u8], &[u8], &mut [u16]) -> usize;
 
 /// The buffers of a search.
-struct Buffers {
-    tables: TableBuffers,
-    found: Vec<u16>,
+pub struct Buffers {
+    pub tables: TableBuffers,
+    pub found: Vec<u16>,
 }
 
 impl Buffers {
-    fn needed(m: usize) -> Buffers {
+    pub fn needed(m: usize) -> Buffers {
         Buffers {
             tables: TableBuffers::needed(m),
             found: vec![0; N],
@@ -179,7 +179,8 @@ fn search(call: Search, pair: &Pair, n: usize, buffers: &mut Buffers) -> Answer 
     black_box((answer, buffers)).0
 }
 
-fn searching<'a>(
+/// Searching the first n bytes of some texts, timed.
+pub fn searching<'a>(
     pairs: &'a [Pair],
     call: Search,
     n: usize,
@@ -218,11 +219,11 @@ fn finding(pairs: &[Pair], call: Find) -> Timed<'_> {
     })
 }
 
-/// The comparisons of all these searches.
-fn comparisons(pairs: &[Pair]) -> u32 {
+/// The comparisons of all these searches, each of a text's first n bytes.
+pub fn comparisons(pairs: &[Pair], n: usize) -> u32 {
     let mut buffers = Buffers::needed(pairs[0].0.len());
     pairs
         .iter()
-        .map(|pair| search(library::search, pair, N, &mut buffers).comparisons)
+        .map(|pair| search(library::search, pair, n, &mut buffers).comparisons)
         .sum()
 }

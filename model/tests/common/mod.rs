@@ -26,6 +26,8 @@ pub mod matcher_suite;
 #[macro_use]
 pub mod prepare_suite;
 #[macro_use]
+pub mod price_suite;
+#[macro_use]
 pub mod report_suite;
 #[macro_use]
 pub mod restore_suite;

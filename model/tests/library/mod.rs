@@ -3,12 +3,15 @@
 #[path = "../../library/ruffarmoire.rs"]
 mod calls;
 
-use ruffarmoire_model::answers::{Answer, ReadAnswer, ReportAnswer, TurnAnswer, WriteAnswer};
+use ruffarmoire_model::answers::{
+    Answer, PriceAnswer, ReadAnswer, ReportAnswer, TurnAnswer, WriteAnswer,
+};
 
 use crate::common::converter_suite::ConverterCalls;
 use crate::common::job_suite::JobCalls;
 use crate::common::matcher_suite::MatcherCalls;
 use crate::common::prepare_suite::PrepareCalls;
+use crate::common::price_suite::PriceCalls;
 use crate::common::report_suite::ReportCalls;
 use crate::common::restore_suite::RestoreCalls;
 use crate::common::table_buffers::LentTables;
@@ -89,5 +92,22 @@ impl TurnCalls for Library {
 impl RestoreCalls for Library {
     fn restore(hold: u32, pattern: &[u8], frames: &[u16], text: &mut [u8]) -> Answer {
         calls::restore(hold, pattern, frames, text)
+    }
+}
+
+impl PriceCalls for Library {
+    fn price(
+        hold: u32,
+        pattern: &[u8],
+        text: &[u8],
+        tables: LentTables,
+        found: &mut [u16],
+    ) -> PriceAnswer {
+        let LentTables {
+            order,
+            delta2,
+            delta1,
+        } = tables;
+        calls::price(hold, pattern, text, order, delta2, delta1, found)
     }
 }

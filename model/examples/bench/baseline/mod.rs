@@ -5,6 +5,7 @@
 pub mod converter;
 pub mod job;
 pub mod matcher;
+pub mod price;
 pub mod report;
 pub mod restore;
 pub mod tables;
