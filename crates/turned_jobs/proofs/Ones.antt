@@ -1,15 +1,16 @@
 -- A text turned has as many ones (`Ones-turned`).
 -- A mirrored byte has as many as the byte, by one test over all 256; and so has a list mirrored or reversed, by induction on it.
 use mathlib.Core.Bool.{Bool, true, false, cond}
-use mathlib.Core.List.{List, [], _∷_, _++_, map, reverse, reverse-cons}
+use mathlib.Core.List.{List, [], _∷_, map, reverse, reverse-cons}
 use mathlib.Core.Path.{_≡_, refl, _∙_}
-use Prim.Native.Nat.{ℕ, _+_, _<_}
+use Prim.Native.Nat.{ℕ, _<_}
 use native.Mathlib.Omega.{arith}
 use borrow.Author.Tests.{eqb-true}
 use lib.Count.{ones, onesIn}
 use lib.Dec.{eqb}
 use Rattle.answers.specs.Bytes.{Bytes}
 use Rattle.hex.proofs.Table.{below, at}
+use Rattle.ones.proofs.Sums.{ones-append}
 use Rattle.ones.specs.Ones.{ones-of}
 use Rattle.mirror.specs.Mirrored.{reversed-bits, mirrored}
 use Rattle.turn.specs.Turned.{mirrors, reverses, turned-by, turned}
@@ -26,11 +27,6 @@ ones-each : (t : List ℕ) → Bytes t → ones-of (map mirrored t) ≡ ones-of 
 unfolding ones-of Bytes
 ones-each [] h = refl
 ones-each (c ∷ t) h = rw (ones-mirrored c (h .0), ones-each t (h .1))
-
-ones-append : (s t : List ℕ) → ones-of (s ++ t) ≡ ones-of s + ones-of t
-unfolding ones-of
-ones-append [] t = omega arith
-ones-append (c ∷ s) t = omega (arith, ones-append s t)
 
 ones-reversed : (t : List ℕ) → ones-of (reverse t) ≡ ones-of t
 unfolding ones-of

@@ -35,6 +35,7 @@ use Rattle.steps.specs.Text.{shown, span}
 use Rattle.matcher.specs.Search.{search-status, found-left}
 use Rattle.frames.specs.Frames.{with-holds, frames}
 use Rattle.ones.specs.Ones.{ones-of, count-status, count-answer}
+use Rattle.ones.specs.Words.{word-of}
 use Rattle.converter.specs.Convert.{convert-status}
 use Rattle.mirror.specs.Mirrored.{reversed-bits, mirrored}
 use Rattle.turn.specs.Turn.{turn-status, turn-answer, turned-left}
@@ -89,7 +90,7 @@ unfolding bytes Holds examples All All-hold
     least-from all-from Neg h-min k-min r-min period second-group-from second-group third-group-from third-group order stored-order Δ1 Δ2
     occurs occurrences-from all-occurrences occurrences bound shown span
     agreeing align step alignments-from alignments compared is-occurrence comparisons-of listed comparisons
-    with-holds frames ones ones-of line done-report seek-report
+    with-holds frames ones ones-of word-of line done-report seek-report
     reversed-bits mirrored turned-by turned turned-index turn-status turn-answer turned-left from-entry in-front
     restored converts-again is-conversion restore-status restored-left
     byte-price sum-from total rebate cost price-status price-answer tables-left stored-Δ1-from stored-Δ1 found-left
@@ -120,4 +121,5 @@ examples-hold =
     then (refl, (refl, (refl, (refl, (refl, (refl, (refl, (refl, (refl, (refl, (refl, (refl, (refl, (refl, (refl, tt)))))))))))))))
     then (job-none 4097 0x00 b 0 refl ∙ cost-equal 4097 0x00 0x00, (cost-equal 4096 0x00 0x00, (cost-equal 4097 0x00 0x00, (cost-equal 4096 0x00 256, (cost-equal 4097 0x00 256, (cost-equal 16384 0xFF 256, (refl, (refl, (refl, (refl, (refl, (refl, tt))))))))))))
     then (record { answer = refl; tables = refl; occurrences-left = refl }, (record { answer = refl; tables = refl; occurrences-left = refl }, (record { answer = refl; tables = refl; occurrences-left = refl }, (record { answer = refl; tables = refl; occurrences-left = refl }, (record { answer = refl; tables = refl; occurrences-left = refl }, (record { answer = refl; tables = refl; occurrences-left = refl }, (record { answer = refl; tables = refl; occurrences-left = refl }, (refl, (refl, (refl, (refl, (refl, (refl, (refl, (refl, (refl, (refl, (refl, (refl, (refl, tt))))))))))))))))))))
+    then (refl, (refl, (refl, (refl, tt))))
     then tt

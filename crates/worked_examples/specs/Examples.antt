@@ -21,6 +21,7 @@ use Rattle.steps.specs.Occurrences.{occurrences}
 use Rattle.steps.specs.Steps.{alignments-in, comparisons, listed}
 use Rattle.matcher.specs.Search.{search-status, search-done}
 use Rattle.ones.specs.Ones.{ones-of, count-status, count-answer}
+use Rattle.ones.specs.Words.{word-of}
 use Rattle.frames.specs.Frames.{frames}
 use Rattle.converter.specs.Convert.{convert-status, convert-done}
 use Rattle.turn.specs.Turn.{turn-status, turn-answer, turned-left}
@@ -43,6 +44,7 @@ pub data Claim : Type 0 where
   comparisons-are : (w t : List ℕ) → (count : ℕ) → Claim
   bound-is : (w t : List ℕ) → (count : ℕ) → Claim
   ones-are : (t : List ℕ) → (count : ℕ) → Claim
+  word-is : (bytes : List ℕ) → (word : ℕ) → Claim
   job-file-is : (q : ℕ) → (w t : List ℕ) → (file : String) → Claim
   seek-prints : (file output : String) → Claim
   file-gives : (file : String) → (status : ℕ) → Claim
@@ -95,6 +97,7 @@ Holds (occurrences-are w t positions) =
 Holds (comparisons-are w t count) = length (comparisons w t) ≡ count
 Holds (bound-is w t count) = search-bound w t ≡ count
 Holds (ones-are t count) = ones-of t ≡ count
+Holds (word-is bytes word) = word-of bytes ≡ word
 Holds (job-file-is q w t file) = job-file q w t ≡ bytes file
 Holds (seek-prints file output) = seek-report (bytes file) ≡ bytes output
 Holds (file-gives file status) = file-status (bytes file) ≡ status
@@ -461,6 +464,13 @@ examples =
     ∷ pricing-gives 1 0 1 (room 2 2 255) 1 7
     ∷ pricing-gives 1 0 1 (room 2 2 256) 0 7
     ∷ pricing-gives 1 0 1 (room 2 2 256) 1 0
+    ∷ [])
+    -- A word of eight cards, and the holes of one card more
+    ∷ row 27
+    (word-is (0x01 ∷ 0x02 ∷ 0x03 ∷ 0x04 ∷ 0x05 ∷ 0x06 ∷ 0x07 ∷ 0x08 ∷ []) 0x0807060504030201
+    ∷ word-is (replicate 8 0xFF) 0xFFFFFFFFFFFFFFFF
+    ∷ word-is (0x80 ∷ []) 0x80
+    ∷ ones-are (0x01 ∷ 0x02 ∷ 0x03 ∷ 0x04 ∷ 0x05 ∷ 0x06 ∷ 0x07 ∷ 0x08 ∷ 0x09 ∷ []) 15
     ∷ [])
     ∷ []
 
