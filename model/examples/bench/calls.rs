@@ -1,5 +1,5 @@
-//! Each call but preparing, searching, turning, restoring and pricing on the largest job, beside its
-//! plain Rust version.
+//! Each call but preparing, searching, turning, restoring and pricing on the largest job, and
+//! counting ones on short texts too, beside its plain Rust version.
 
 use std::hint::black_box;
 
@@ -50,8 +50,8 @@ pub fn run() {
     print(
         "count_ones",
         [
-            counting(&job, library::count_ones),
-            counting(&job, baseline::converter::count_ones),
+            counting(&job.text, library::count_ones),
+            counting(&job.text, baseline::converter::count_ones),
         ],
     );
     print(
@@ -61,6 +61,26 @@ pub fn run() {
             reporting(&file, baseline::report::seek_report),
         ],
     );
+    print_short_counts(&job);
+}
+
+/// Counting where a text has no word of eight bytes, few words, or words and a rest.
+fn print_short_counts(job: &Job) {
+    println!("\ncount_ones of the first n bytes, in the same columns. ns a call.");
+    for n in [1, 7, 8, 15, 63, 64, 255, 1_023] {
+        let text = &job.text[..n];
+        let [rattle, rust] = medians([
+            counting(text, library::count_ones),
+            counting(text, baseline::converter::count_ones),
+        ]);
+        println!(
+            "{:12} {:9.1} {:9.1} {:12.2}",
+            format!("n = {n}"),
+            1_000.0 * rattle,
+            1_000.0 * rust,
+            rattle / rust
+        );
+    }
 }
 
 fn print(name: &str, both: [Timed; 2]) {
@@ -136,10 +156,10 @@ fn converting(job: &Job, call: Convert) -> Timed<'_> {
 
 type Count = fn(&[u8]) -> Answer;
 
-fn counting(job: &Job, call: Count) -> Timed<'_> {
-    assert_eq!(call(&job.text), calls::count_ones(&job.text));
+fn counting(text: &[u8], call: Count) -> Timed<'_> {
+    assert_eq!(call(text), calls::count_ones(text));
     Timed::new(1, move || {
-        black_box(call(black_box(&job.text)));
+        black_box(call(black_box(text)));
     })
 }
 

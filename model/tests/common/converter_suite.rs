@@ -35,6 +35,9 @@ macro_rules! converter_suite {
         tests_of!(converter_suite, $calls:
             worked_examples,
             ones_of_short_texts,
+            ones_of_every_length,
+            ones_begun_anywhere,
+            ones_around_a_word,
             ones_of_long_texts,
             ones_at_the_edge,
         );
@@ -135,6 +138,41 @@ pub fn ones_of_short_texts<T: ConverterCalls>() {
             text[position] = 1 << (position % 8);
             assert_eq!(check_ones::<T>(&text).ones, 1);
             text[position] = 0;
+        }
+    }
+}
+
+pub fn ones_of_every_length<T: ConverterCalls>() {
+    let bytes = Random::seeded(79).bytes(16_384 + 7);
+    for length in 0..=16_384 {
+        // Each number of words is begun at another position of a word, with every rest.
+        check_ones::<T>(&bytes[length / 8 % 8..][..length]);
+    }
+}
+
+/// Short texts that begin at every position of a memory line.
+pub fn ones_begun_anywhere<T: ConverterCalls>() {
+    let bytes = Random::seeded(80).bytes(64 + 160);
+    for start in 0..64 {
+        for length in 0..=160 {
+            check_ones::<T>(&bytes[start..][..length]);
+        }
+    }
+}
+
+/// One byte unlike all others, at each position around the end of the last word.
+pub fn ones_around_a_word<T: ConverterCalls>() {
+    for words in [
+        0_usize, 1, 2, 3, 31, 32, 33, 255, 256, 1_024, 2_046, 2_047, 2_048,
+    ] {
+        for length in (8 * words..=8 * words + 7).filter(|&length| length <= 16_384) {
+            for position in (8 * words).saturating_sub(9)..length {
+                for (byte, others) in [(0x00, 0xFF), (0xFF, 0x00), (0x80, 0x01), (0x01, 0x80)] {
+                    let mut text = vec![others; length];
+                    text[position] = byte;
+                    check_ones::<T>(&text);
+                }
+            }
         }
     }
 }
