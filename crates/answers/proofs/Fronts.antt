@@ -1,11 +1,11 @@
 -- New entries in a buffer, from an entry on: their length, what stands there, one stored next to them, and more put
 -- after them. The entry after them is `at` and their length, which an equation gives. In front is the case of entry 0.
 use mathlib.Core.List.{List, [], _∷_, _++_, append-assoc, append-nil}
-use mathlib.Core.Path.{_≡_, sym}
+use mathlib.Core.Path.{_≡_, refl, sym, _∙_}
 use Prim.Native.Nat.{ℕ, suc, _+_, _≤_, _<_}
 use native.Mathlib.Omega.{arith}
-use lib.ListN.{length, take, drop, set, replicate, length-append, length-take, length-drop, length-replicate, take-append-drop}
-use lib.Seq.{length-take-le, take-at, drop-cons, drop-drop, drop-length, drop-at, set-at, append-snoc, sets, sets-eq}
+use lib.ListN.{length, getD, take, drop, set, replicate, length-append, length-take, length-drop, length-replicate, take-append-drop}
+use lib.Seq.{length-take-le, getD-take, take-at, drop-cons, drop-drop, drop-length, drop-at, set-at, append-snoc, sets, sets-eq}
 use Rattle.answers.specs.Buffers.{from-entry, in-front}
 
 -- a buffer that is an array of n zeros has n entries
@@ -57,6 +57,9 @@ module _ {A : Type 0} where
   pub in-front-take : (new old : List A) (n : ℕ) → length new ≡ n → take n (in-front new old) ≡ new
   unfolding in-front
   in-front-take new old n e = from-entry-there 0 new old (omega arith) n e
+
+  pub in-front-entry : (new old : List A) (i : ℕ) (d : A) → i < length new → getD (in-front new old) i d ≡ getD new i d
+  in-front-entry new old i d l = sym (getD-take (length new) (in-front new old) i d l) ∙ rw (in-front-take new old (length new) refl)
 
   -- as many new entries as the buffer has are all that it holds
   pub in-front-whole : (new old : List A) → length new ≡ length old → in-front new old ≡ new

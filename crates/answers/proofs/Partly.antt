@@ -33,15 +33,20 @@ module _ {A : Type 0} where
       after = rw length-append (omega (arith, p .after));
     }
 
-  -- entries put after those from the first entry on
+  -- entries put after others; and where those are put from the first entry on
+  pub put-more :
+      {at : ℕ} {new more old out out' : List A} {next next' : ℕ} → at ≤ length old → Put at new old out next → Put next more out out' next' →
+      Put at (new ++ more) old out' next'
+  put-more {at} {new} {more} {old} room p q = record {
+    buffer = rw (q .buffer, p .buffer) (from-entry-append at new old room more _ (sym (p .after)));
+    after = rw length-append (omega (arith, p .after, q .after));
+  }
+
   infixl 20 _then_
   pub _then_ :
       {new more old out out' : List A} {next next' : ℕ} → Put 0 new old out next → Put next more out out' next' →
       Put 0 (new ++ more) old out' next'
-  _then_ {new} {more} {old} p q = record {
-    buffer = rw (q .buffer, p .buffer) (from-entry-append 0 new old (omega arith) more _ (sym (p .after)));
-    after = rw length-append (omega (arith, p .after, q .after));
-  }
+  _then_ p q = put-more (omega arith) p q
 
   pub put-front : {new old out : List A} {next : ℕ} → Put 0 new old out next → out ≡ in-front new old
   unfolding in-front

@@ -3,25 +3,33 @@
 use Prim.Native.Nat.{ℕ, zero, suc}
 use Rattle.answers.specs.declared.Answer.{Answer}
 
--- an answer with none of finds, looks and holes: the status, and zeros
+-- an answer with none of finds, looks, holes, p and the bound: the status, and zeros
 abbrev pub status-only : (status : ℕ) → Answer
-status-only s = record { status = s; occurrences = 0; comparisons = 0; ones = 0 }
+status-only s = record { status = s; occurrences = 0; comparisons = 0; ones = 0; period = 0; bound = 0 }
 
--- what preparing answers where it is done: none of the three
-abbrev pub prepared : Answer
-prepared = status-only 0
+-- what preparing answers where it is done: only p
+abbrev pub prepared : (p : ℕ) → Answer
+prepared p = record { status = 0; occurrences = 0; comparisons = 0; ones = 0; period = p; bound = 0 }
 
--- what searching answers where it is done: h and C
-abbrev pub searched : (h C : ℕ) → Answer
-searched h C = record { status = 0; occurrences = h; comparisons = C; ones = 0 }
+-- what searching answers where it is done: h, C, p and the bound
+abbrev pub searched : (h C p bound : ℕ) → Answer
+searched h C p b = record { status = 0; occurrences = h; comparisons = C; ones = 0; period = p; bound = b }
 
 -- what converting answers where it is done: what its search answers, and the holes
 abbrev pub converted : (search : Answer) → (ones : ℕ) → Answer
-converted a o = record { status = a .status; occurrences = a .occurrences; comparisons = a .comparisons; ones = o }
+converted a o =
+    record {
+      status = a .status;
+      occurrences = a .occurrences;
+      comparisons = a .comparisons;
+      ones = o;
+      period = a .period;
+      bound = a .bound;
+    }
 
 -- what counting answers where it is done: only the holes
 abbrev pub counted : (ones : ℕ) → Answer
-counted o = record { status = 0; occurrences = 0; comparisons = 0; ones = o }
+counted o = record { status = 0; occurrences = 0; comparisons = 0; ones = o; period = 0; bound = 0 }
 
 -- what a call answers or leaves: the first where its status is 0 (done), the second where it is refused
 unfoldable pub if-done : {A : Type 0} → (status : ℕ) → (done refused : A) → A

@@ -15,9 +15,13 @@ pub struct Answer {
     pub comparisons: u32,
     // the holes of the chain
     pub ones: u32,
+    // the period of the motif, p
+    pub period: u32,
+    // the most looks that demand 3 allows
+    pub bound: u32,
 }
 
-// The answer of a call that answers none of the three.
+// The answer of a call that answers its status alone.
 pub fn status_only(status: u32) -> Answer
     ensures { λ r. ⌜ r ≡ status-only status ⌝ }
 {
@@ -26,25 +30,36 @@ pub fn status_only(status: u32) -> Answer
         occurrences: 0,
         comparisons: 0,
         ones: 0,
+        period: 0,
+        bound: 0,
     }
 }
 
 // The answer of a call that has prepared a pattern (motif).
-pub fn prepared() -> Answer
-    ensures { λ r. ⌜ r ≡ prepared ⌝ }
+pub fn prepared(period: u32) -> Answer
+    ensures { λ r. ⌜ r ≡ prepared period ⌝ }
 {
-    status_only(0)
+    Answer {
+        status: 0,
+        occurrences: 0,
+        comparisons: 0,
+        ones: 0,
+        period,
+        bound: 0,
+    }
 }
 
 // The answer of a call that has searched.
-pub fn searched(occurrences: u32, comparisons: u32) -> Answer
-    ensures { λ r. ⌜ r ≡ searched occurrences comparisons ⌝ }
+pub fn searched(occurrences: u32, comparisons: u32, period: u32, bound: u32) -> Answer
+    ensures { λ r. ⌜ r ≡ searched occurrences comparisons period bound ⌝ }
 {
     Answer {
         status: 0,
         occurrences,
         comparisons,
         ones: 0,
+        period,
+        bound,
     }
 }
 
@@ -57,6 +72,8 @@ pub fn converted(search: Answer, ones: u32) -> Answer
         occurrences: search.occurrences,
         comparisons: search.comparisons,
         ones,
+        period: search.period,
+        bound: search.bound,
     }
 }
 
@@ -69,6 +86,8 @@ pub fn counted(ones: u32) -> Answer
         occurrences: 0,
         comparisons: 0,
         ones,
+        period: 0,
+        bound: 0,
     }
 }
 

@@ -14,8 +14,10 @@ use Rattle.answers.specs.Answers.{converted, if-done, answered}
 use Rattle.answers.specs.Buffers.{in-front}
 use Rattle.answers.specs.Bytes.{Bytes}
 use Rattle.answers.specs.declared.Answer.{Answer}
+use Rattle.tables.specs.Tables.{period}
 use Rattle.steps.proofs.Bound.{few-comparisons}
 use Rattle.steps.proofs.Decide.{same-texts}
+use Rattle.steps.proofs.Text.{span-same}
 use Rattle.steps.specs.Bound.{search-bound}
 use Rattle.steps.specs.Occurrences.{occurrences}
 use Rattle.steps.specs.Promises.{Few-comparisons}
@@ -53,6 +55,8 @@ record Worked (w t : List ℕ) (c : Call) : Type 0 where
   nonempty : 1 ≤ length w
   occurrences-counted : c .answer .occurrences ≡ length (occurrences w t)
   comparisons-counted : c .answer .comparisons ≡ length (comparisons w t)
+  period-answered : c .answer .period ≡ period w
+  bound-answered : c .answer .bound ≡ search-bound w t
   occurrences-left : c .left .found ≡ in-front (occurrences w t) (c .lent .found)
 
 module _ {w t : List ℕ} {c : Call} where
@@ -68,6 +72,8 @@ module _ {w t : List ℕ} {c : Call} where
         nonempty = limits done;
         occurrences-counted = ap (λ (x : Answer). x .occurrences) answered;
         comparisons-counted = ap (λ (x : Answer). x .comparisons) answered;
+        period-answered = ap (λ (x : Answer). x .period) answered;
+        bound-answered = ap (λ (x : Answer). x .bound) answered;
         occurrences-left = rw done at left;
       }
 
@@ -84,9 +90,9 @@ module _ {w t : List ℕ} {c : Call} where
   found-right h =
       rw (h .occurrences-left) (in-front-take (occurrences w t) (c .lent .found) (c .answer .occurrences) (sym (h .occurrences-counted)))
 
-  few : Worked w t c → c .answer .comparisons ≤ search-bound w t
+  few : Worked w t c → c .answer .comparisons ≤ c .answer .bound
   unfolding comparisons occurrences Few-comparisons
-  few h = rw (h .comparisons-counted) (few-comparisons (shown t) (span w t) w (h .nonempty))
+  few h = rw (h .comparisons-counted, h .bound-answered) (few-comparisons (shown t) (span w t) w (h .nonempty))
 
   -- a conversion that is taken leaves the frames in front of its buffer
   pub frames-by : {q : ℕ} → Converts q w t c → Call-taken c → take (length t) (c .left .frames) ≡ frames q w t
@@ -108,6 +114,8 @@ every-search-exact q w t c s e =
       occurrences-found = found-right h;
       occurrences-counted = h .occurrences-counted;
       comparisons-counted = h .comparisons-counted;
+      period-answered = h .period-answered;
+      bound-answered = h .bound-answered;
       few = few h;
       frames-exact = λ converts bytes. rw (found-right h) (frames-right converts e bytes);
     }
@@ -125,4 +133,6 @@ paired q w t u c d s e s' e' l same =
       same-holds = ap (map (λ b. b + q)) found;
       same-frames = λ h b h' b'. y .frames-exact h' b' ∙ rw found (sym (x .frames-exact h b));
       same-count = rw (x .comparisons-counted, y .comparisons-counted, compared);
+      same-period = y .period-answered ∙ sym (x .period-answered);
+      same-bound = rw (x .bound-answered, y .bound-answered, listed, span-same w t u l);
     }

@@ -9,6 +9,7 @@ use lib.ListN.{length, take}
 use Rattle.answers.specs.Bytes.{Bytes}
 use Rattle.answers.specs.declared.Answer.{Answer}
 use Rattle.tables.specs.Buffers.{Tables}
+use Rattle.tables.specs.Tables.{period}
 use Rattle.steps.specs.Bound.{search-bound}
 use Rattle.steps.specs.Occurrences.{occurrences}
 use Rattle.steps.specs.Promises.{Same-at}
@@ -70,13 +71,15 @@ holds-from i (f ∷ later) = cond (eqb f hold) (i ∷ holds-from (suc i) later) 
 unfoldable pub frames-held : (n : ℕ) → Call → List ℕ
 frames-held n c = holds-from 0 (take n (c .left .frames))
 
--- what a search answers and leaves: the occurrences by meaning, and their number h; the number of comparisons (looks) that the steps make,
--- which keeps the bound; and after a conversion just its holds are holds among its n frames
+-- what a search answers and leaves: the occurrences by meaning, and their number h; the number of comparisons (looks) that the steps make; the
+-- pattern's period p; the bound, which that number keeps; and after a conversion just its holds are holds among its n frames
 pub record Exact (q : ℕ) (w t : List ℕ) (c : Call) : Type 0 where
   pub occurrences-found : found-by c ≡ occurrences w t
   pub occurrences-counted : c .answer .occurrences ≡ length (occurrences w t)
   pub comparisons-counted : c .answer .comparisons ≡ length (comparisons w t)
-  pub few : c .answer .comparisons ≤ search-bound w t
+  pub period-answered : c .answer .period ≡ period w
+  pub bound-answered : c .answer .bound ≡ search-bound w t
+  pub few : c .answer .comparisons ≤ c .answer .bound
   pub frames-exact : Converts q w t c → Bytes t → frames-held (length t) c ≡ holds-by q c
 
 -- demand 3: this is so of every search that is taken
@@ -84,13 +87,15 @@ unfoldable pub Every-search-exact : Type 0
 Every-search-exact = (q : ℕ) (w t : List ℕ) (c : Call) → Search q w t c → Call-taken c → Exact q w t c
 
 -- what a search c in t and a search d in u share: the comparisons that the steps make, in their order, the occurrences, the holds
--- (of two conversions those among the frames too), and the count of comparisons that is answered
+-- (of two conversions those among the frames too), and the count of comparisons, the period and the bound that are answered
 pub record Shared (q : ℕ) (w t u : List ℕ) (c d : Call) : Type 0 where
   pub same-comparisons : comparisons w u ≡ comparisons w t
   pub same-occurrences : found-by d ≡ found-by c
   pub same-holds : holds-by q d ≡ holds-by q c
   pub same-frames : Converts q w t c → Bytes t → Converts q w u d → Bytes u → frames-held (length u) d ≡ frames-held (length t) c
   pub same-count : d .answer .comparisons ≡ c .answer .comparisons
+  pub same-period : d .answer .period ≡ c .answer .period
+  pub same-bound : d .answer .bound ≡ c .answer .bound
 
 -- demand 3: so do any two searches, both taken, for one pattern and one hold offset, in texts of equal length that have the same byte
 -- at every position where the first search compares

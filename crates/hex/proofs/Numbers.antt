@@ -1,17 +1,18 @@
--- A number written in digits and read again, and digits read and written again.
--- Both by induction on how many digits, in a file whose bytes from a place on are known: `drop at file ≡ digits ++ rest`.
+-- A number written in digits and read again, and digits read and written again; which places of a number its digits show.
+-- By induction on how many digits; what is read, in a file whose bytes from a place on are known: `drop at file ≡ digits ++ rest`.
 use mathlib.Core.Bool.{Bool, true, false}
 use mathlib.Core.List.{List, [], _∷_, _++_}
 use mathlib.Core.Path.{_≡_, refl, sym, ap, _∙_}
 use Prim.Native.Nat.{ℕ, zero, suc, _+_, _*_, _/_, _%_, _^_, _<_}
-use native.Mathlib.Nat.{add-zero, add-suc, suc-add, mod-lt, mod-one, mod-eq-of-lt, one-le-pow, pow-succ'}
-use native.Mathlib.Nat.{mul-assoc, mul-add-div-right, mul-add-mod-self-right}
+use native.Mathlib.Nat.{add-zero, zero-add, add-suc, suc-add, add-comm, mod-lt, mod-one, mod-eq-of-lt, one-le-pow, pow-succ'}
+use native.Mathlib.Nat.{mul-assoc, mul-add-div-right, mul-add-mod-self-right, div-add-mod', div-div-eq-div-mul}
 use native.Mathlib.Numerals.{add-one}
 use native.Mathlib.Omega.{arith}
 use borrow.Author.Tests.{ltb-true, ltb-false}
 use lib.Arith.{digits-lt, digits-div, mod-mul}
 use lib.Dec.{ltb}
 use lib.ListN.{length, drop, getD, List·getD-eq-default}
+use lib.Pow.{pow-add}
 use lib.Seq.{getD-drop, drop-drop, drop-cons, drop-at}
 use Rattle.hex.proofs.Digits.{digit-from, digit-is-digit, value-of-digit, value-below, digit-of-value}
 use Rattle.hex.proofs.Table.{and-left, and-right}
@@ -82,6 +83,15 @@ digits-higher (suc n) x v =
       mul-add-mod-self-right x 16 (v / 16 ^ n),
       digits-higher n (x * 16) v,
     )
+
+pub digits-low : (n v : ℕ) → digits n (v % 16 ^ n) ≡ digits n v
+digits-low n v = sym (digits-higher n (v / 16 ^ n) (v % 16 ^ n)) ∙ ap (digits n) (div-add-mod' v (16 ^ n))
+
+-- the first m of m + n digits are those of the places above the last n
+pub digits-append : (m n v : ℕ) → digits (m + n) v ≡ digits m (v / 16 ^ n) ++ digits n v
+unfolding digits
+digits-append zero n v = rw zero-add
+digits-append (suc m) n v = rw (suc-add, digits-append m n v, div-div-eq-div-mul v (16 ^ n), ← pow-add, add-comm n m)
 
 -- digits read make a number of so many places
 pub number-below : (n a : ℕ) (bs : List ℕ) → all-digits n a bs ≡ true → number n a bs < 16 ^ n

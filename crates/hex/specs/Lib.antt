@@ -1,2 +1,3 @@
 pub mod Hex
+pub mod Pairs
 pub mod Parsed

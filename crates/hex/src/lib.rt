@@ -1,8 +1,9 @@
-// Capital hexadecimal digits: a byte read as a digit, and the digit of a value.
+// Capital hexadecimal digits: a byte read as a digit, the digit of a value, and a table of the two digits of each byte.
 ghost use mathlib.Core.Path.{_≡_};
 ghost use Prim.Native.Nat.{_%_, _≤_};
 ghost use Rattle.hex.specs.Parsed.{Parsed-outcome};
 ghost use Rattle.hex.specs.Hex.{is-digit, digit-value, digit};
+ghost use Rattle.hex.specs.Pairs.{Digit-pairs};
 
 // Bytes read as a number, or refused.
 pub enum Parsed {
@@ -43,4 +44,17 @@ pub fn digit_of(value: u8) -> u8
     } else {
         0x37 + place
     }
+}
+
+// The two digits of each byte, those of byte b at 2 b and 2 b + 1. It is public for the crates that write many lines, which work it out once
+// and lend it for each line.
+pub fn digit_pairs() -> [u8; 512]
+    ensures { λ r. ⌜ Digit-pairs r ⌝ }
+{
+    let mut pairs = [0; 512];
+    for byte in 0..256 {
+        pairs[2 * byte] = digit_of((byte / 16) as u8);
+        pairs[2 * byte + 1] = digit_of(byte as u8);
+    }
+    pairs
 }

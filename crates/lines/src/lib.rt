@@ -4,6 +4,7 @@ ghost use Prim.Native.Nat.{_+_, _≤_};
 ghost use lib.ListN.{length};
 ghost use Rattle.answers.specs.Buffers.{from-entry};
 ghost use Rattle.hex.specs.Hex.{digits};
+ghost use Rattle.hex.specs.Pairs.{Digit-pairs};
 ghost use Rattle.lines.specs.Lines.{line};
 
 // The byte that ends each line.
@@ -36,4 +37,34 @@ pub fn write_line(count: usize, number: u32, at: usize, out: &mut [u8]) -> usize
     let end = write_digits(count, number, at, out);
     out[end] = LINE_END;
     end + 1
+}
+
+// Writes the two digits of a byte by the table of digit pairs, the first of them at index `at`, and returns the index after them. Both digits
+// are read before either is written, so that they can be moved together.
+fn write_pair(pairs: &[u8; 512], byte: u8, at: usize, out: &mut [u8]) -> usize
+    requires { ⌜ Digit-pairs (now pairs) ⌝ }
+    requires { ⌜ at + 2 ≤ length (now out) ⌝ }
+    ensures { λ r. ⌜ r ≡ at + 2 ⌝ }
+    ensures { λ r. ⌜ now (out .exit) ≡ from-entry at (digits 2 byte) (now (out .entry)) ⌝ }
+{
+    let place = 2 * (byte as usize);
+    let high = pairs[place];
+    let low = pairs[place + 1];
+    out[at] = high;
+    out[at + 1] = low;
+    at + 2
+}
+
+// Writes a number in four digits, as `write_line` does, by the table of digit pairs. It is public for the crate that writes reports, which have
+// many such lines.
+pub fn write_line_by_pairs(pairs: &[u8; 512], number: u16, at: usize, out: &mut [u8]) -> usize
+    requires { ⌜ Digit-pairs (now pairs) ⌝ }
+    requires { ⌜ at + 5 ≤ length (now out) ⌝ }
+    ensures { λ r. ⌜ r ≡ at + 5 ⌝ }
+    ensures { λ r. ⌜ now (out .exit) ≡ from-entry at (line 4 number) (now (out .entry)) ⌝ }
+{
+    let middle = write_pair(pairs, (number / 256) as u8, at, out);
+    let after = write_pair(pairs, (number % 256) as u8, middle, out);
+    out[after] = LINE_END;
+    after + 1
 }

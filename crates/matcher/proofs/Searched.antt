@@ -12,10 +12,14 @@ use Rattle.answers.proofs.Fronts.{in-front-take}
 use Rattle.answers.proofs.Refusals.{done-none, no-hold}
 use Rattle.answers.specs.Answers.{status-only, searched, if-done, answered}
 use Rattle.answers.specs.Refusals.{longest-text, pattern-refusal, text-refusal, buffer-refusal}
+use Rattle.tables.proofs.Periods.{period-facts}
 use Rattle.tables.proofs.Rooms.{tables-fit, tables-kept, tables-done}
 use Rattle.tables.specs.Buffers.{Tables, lengths, Tables-fit, table-refusal, measured-status, Tables-written}
 use Rattle.tables.specs.declared.TableLengths.{TableLengths}
-use Rattle.tables.specs.Tables.{stored-order, Δ2, stored-Δ1}
+use Rattle.tables.specs.Tables.{period, stored-order, Δ2, stored-Δ1}
+use Rattle.steps.proofs.Occurrences.{occurrences-few}
+use Rattle.steps.proofs.Text.{span-length}
+use Rattle.steps.specs.Bound.{bound}
 use Rattle.steps.specs.Run.{Run-ready, Run-outcome}
 use Rattle.steps.specs.declared.Counts.{Counts}
 use Rattle.matcher.specs.Search.{search-status, search-status-of, search-done, found-left, Search-outcome-of}
@@ -50,6 +54,14 @@ module _ {w t : List ℕ} {lent : Tables} {found : List ℕ} where
   refused s h =
       record { answer = refused-answer s (search-done w t) h; tables = tables-kept s w h; occurrences-left = refused-only s _ found h }
 
+  -- the bound can be worked out
+  pub bound-ready :
+      {found' : List ℕ} {counts : Counts} {p : ℕ} → Search-fit w t lent found → p ≡ period w → Run-outcome w t found found' counts →
+      (length w ≤ 128) × ((length t ≤ 65535) × ((counts .occurrences ≤ length t) × (p ≤ length w)))
+  bound-ready fit value ran =
+      let some = fit .tables .taken .some in
+      omega (arith, fit, value, ran .occurrences-counted, occurrences-few w t some, period-facts w some .within)
+
   module _ {left : Tables} (written : Tables-written w lent left) where
     -- the steps can be run by the tables that are written
     pub run-ready : Search-fit w t lent found → Run-ready w t (left .order) (left .delta2) (left .delta1) found
@@ -68,12 +80,13 @@ module _ {w t : List ℕ} {lent : Tables} {found : List ℕ} where
 
     -- a call that is done
     pub done :
-        {found' : List ℕ} {counts : Counts} → Run-outcome w t found found' counts →
-        Search-outcome-of 0 w t lent left found found' (searched (counts .occurrences) (counts .comparisons))
+        {found' : List ℕ} {counts : Counts} {p most : ℕ} → p ≡ period w → Run-outcome w t found found' counts →
+        most ≡ bound (length w) (length t) (counts .occurrences) p →
+        Search-outcome-of 0 w t lent left found found' (searched (counts .occurrences) (counts .comparisons) p most)
     unfolding if-done answered found-left
-    done ran =
+    done value ran bounded =
         record {
-          answer = rw (ran .occurrences-counted, ran .comparisons-counted);
+          answer = rw (bounded, value, ran .occurrences-counted, ran .comparisons-counted, span-length);
           tables = tables-done written;
           occurrences-left = ran .occurrences-left;
         }

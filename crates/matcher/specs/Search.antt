@@ -8,7 +8,9 @@ use Rattle.answers.specs.Buffers.{in-front}
 use Rattle.answers.specs.Refusals.{first-of, pattern-refusal, text-refusal, buffer-refusal}
 use Rattle.answers.specs.declared.Answer.{Answer}
 use Rattle.tables.specs.Buffers.{Tables, lengths, table-refusal, tables-left}
+use Rattle.tables.specs.Tables.{period}
 use Rattle.tables.specs.declared.TableLengths.{TableLengths}
+use Rattle.steps.specs.Bound.{search-bound}
 use Rattle.steps.specs.Occurrences.{occurrences}
 use Rattle.steps.specs.Steps.{comparisons}
 
@@ -16,9 +18,9 @@ use Rattle.steps.specs.Steps.{comparisons}
 unfoldable pub search-status : (m n : ℕ) → TableLengths → (found-len : ℕ) → ℕ
 search-status m n l f = first-of (pattern-refusal m ∷ text-refusal n ∷ table-refusal m l ∷ buffer-refusal f n ∷ [])
 
--- searching works out h and C
+-- searching works out h and C, and p and the bound of demand 3 (document 02, "Write out the period and the bound")
 abbrev pub search-done : (w t : List ℕ) → Answer
-search-done w t = searched (length (occurrences w t)) (length (comparisons w t))
+search-done w t = searched (length (occurrences w t)) (length (comparisons w t)) (period w) (search-bound w t)
 
 -- the finds in their buffer after a call of this status: entries past the h-th keep what they held
 unfoldable pub found-left : (status : ℕ) → (w t found : List ℕ) → List ℕ

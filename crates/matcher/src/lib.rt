@@ -19,13 +19,15 @@ pub fn search_within(
         (tables (now (order .entry)) (now (delta2 .entry)) (now (delta1 .entry)))
         (tables (now (order .exit)) (now (delta2 .exit)) (now (delta1 .exit))) (now (found .entry)) (now (found .exit)) r ⌝ }
 {
-    prepare::write_tables(pattern, order, delta2, delta1);
+    let period = prepare::write_tables(pattern, order, delta2, delta1);
     let counts = steps::run_steps(pattern, text, order, delta2, delta1, found);
-    answers::searched(counts.occurrences, counts.comparisons)
+    let h = counts.occurrences;
+    let bound = steps::comparison_bound(pattern.len() as u32, text.len() as u32, h, period);
+    answers::searched(h, counts.comparisons, period, bound)
 }
 
-// Lists every occurrence (find) of the pattern (motif) in the text (chain), and counts the comparisons (looks). Tables that stand in
-// the caller's buffers are not trusted: they are worked out anew.
+// Lists every occurrence (find) of the pattern (motif) in the text (chain), counts the comparisons (looks), and answers the pattern's period and the
+// bound beside them. Tables that stand in the caller's buffers are not trusted: they are worked out anew.
 pub fn search(
     pattern: &[u8],
     text: &[u8],

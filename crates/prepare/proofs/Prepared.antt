@@ -2,7 +2,7 @@
 -- Where its status is 0, the pattern is taken and its tables fit.
 use mathlib.Core.List.{List, [], _∷_}
 use mathlib.Core.Bool.{false}
-use mathlib.Core.Path.{_≡_, refl, sym}
+use mathlib.Core.Path.{_≡_, sym, ap}
 use Prim.Native.Nat.{ℕ}
 use native.Mathlib.Omega.{arith}
 use lib.ListN.{length}
@@ -13,7 +13,8 @@ use Rattle.answers.specs.Refusals.{first-of, refuse, pattern-refusal}
 use Rattle.tables.proofs.Rooms.{tables-fit, tables-kept, tables-done}
 use Rattle.tables.specs.Buffers.{Tables, lengths, Tables-fit, table-refusal, measured-status, Tables-written}
 use Rattle.tables.specs.declared.TableLengths.{TableLengths}
-use Rattle.tables.specs.Prepare.{prepare-status, Prepare-outcome-of}
+use Rattle.tables.specs.Tables.{period}
+use Rattle.tables.specs.Prepare.{prepare-status, prepare-done, Prepare-outcome-of}
 
 -- 4 is measured among 4, 5 and 6, of which the others never hold
 pub status-is : (m : ℕ) (l : TableLengths) → measured-status m 0 0 l false ≡ prepare-status m l
@@ -29,8 +30,8 @@ prepare-fit {w} {lent} e =
 
 module _ {w : List ℕ} {lent : Tables} where
   pub refused : (s : ℕ) → (s ≡ 0 → ⊥) → Prepare-outcome-of s w lent lent (status-only s)
-  refused s h = record { answer = refused-answer s prepared h; tables = tables-kept s w h }
+  refused s h = record { answer = refused-answer s (prepare-done w) h; tables = tables-kept s w h }
 
-  pub done : {left : Tables} → Tables-written w lent left → Prepare-outcome-of 0 w lent left prepared
+  pub done : {left : Tables} {p : ℕ} → (p ≡ period w) × Tables-written w lent left → Prepare-outcome-of 0 w lent left (prepared p)
   unfolding answered if-done
-  done written = record { answer = refl; tables = tables-done written }
+  done (value, written) = record { answer = ap prepared value; tables = tables-done written }

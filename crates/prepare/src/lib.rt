@@ -1,22 +1,32 @@
 // Preparing a pattern: Colussi's tables in the caller's buffers.
+ghost use mathlib.Core.Path.{_≡_};
 ghost use Rattle.tables.specs.Buffers.{tables, Tables-fit, Tables-written};
 ghost use Rattle.tables.specs.Prepare.{Prepare-outcome};
+ghost use Rattle.tables.specs.Tables.{period};
 use answers::Answer;
 use tables::TableLengths;
 
-// Works the tables out for a pattern that is taken, in buffers that are long enough. It is public for the crates that search, which work
-// them out anew each time.
-pub fn write_tables(pattern: &[u8], order: &mut [i16], delta2: &mut [u16], delta1: &mut [u16])
+// Works the tables out for a pattern that is taken, in buffers that are long enough, and returns its period: where all agree, Δ2 has it. It is
+// public for the crates that search, which work the tables out anew each time.
+pub fn write_tables(
+    pattern: &[u8],
+    order: &mut [i16],
+    delta2: &mut [u16],
+    delta1: &mut [u16],
+) -> u32
     requires { ⌜ Tables-fit (now pattern) (tables (now order) (now delta2) (now delta1)) ⌝ }
+    ensures { λ r. ⌜ r ≡ period (now (pattern .entry)) ⌝ }
     ensures { λ r. ⌜ Tables-written (now (pattern .entry))
         (tables (now (order .entry)) (now (delta2 .entry)) (now (delta1 .entry)))
         (tables (now (order .exit)) (now (delta2 .exit)) (now (delta1 .exit))) ⌝ }
 {
     order::write_order_and_delta2(pattern, order, delta2);
     delta1::write_delta1(pattern, delta1);
+    let m = pattern.len();
+    delta2[m] as u32
 }
 
-// Prepares a pattern (motif): works its order, Δ2 and Δ1 out into the caller's buffers.
+// Prepares a pattern (motif): works its order, Δ2 and Δ1 out into the caller's buffers, and answers its period.
 pub fn prepare(pattern: &[u8], order: &mut [i16], delta2: &mut [u16], delta1: &mut [u16]) -> Answer
     ensures { λ r. ⌜ Prepare-outcome (now (pattern .entry))
         (tables (now (order .entry)) (now (delta2 .entry)) (now (delta1 .entry)))
@@ -31,6 +41,6 @@ pub fn prepare(pattern: &[u8], order: &mut [i16], delta2: &mut [u16], delta1: &m
     if status != 0 {
         return answers::status_only(status);
     }
-    write_tables(pattern, order, delta2, delta1);
-    answers::prepared()
+    let period = write_tables(pattern, order, delta2, delta1);
+    answers::prepared(period)
 }

@@ -9,7 +9,7 @@ use Rattle.hex.proofs.Numbers.{length-digits}
 use Rattle.lines.proofs.Lines.{length-line, length-lines}
 use Rattle.printer.specs.Printed.{Answer-line, numbers, number-lines, number-bytes, report-lines, report-length, refused-report}
 
-length-number-lines : (ls : List Answer-line) (a : Answer) → length (number-lines ls a) ≡ number-bytes ls
+pub length-number-lines : (ls : List Answer-line) (a : Answer) → length (number-lines ls a) ≡ number-bytes ls
 length-number-lines [] a = refl
 length-number-lines (l ∷ ls) a = rw (length-append, length-line, length-number-lines ls a)
 

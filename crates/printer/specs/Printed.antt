@@ -19,9 +19,15 @@ pub record Answer-line : Type 0 where
 abbrev pub in-digits : (digit-count : ℕ) → (number : Answer → ℕ) → Answer-line
 in-digits n v = record { digit-count = n; number = v }
 
--- the numbers of a report: h in four digits, C in eight, the holes in eight
+-- the numbers of a report: h in four digits, C in eight, the holes in eight, p in four, the bound in eight
 abbrev pub numbers : List Answer-line
-numbers = in-digits 4 (λ a. a .occurrences) ∷ in-digits 8 (λ a. a .comparisons) ∷ in-digits 8 (λ a. a .ones) ∷ []
+numbers =
+    in-digits 4 (λ a. a .occurrences)
+    ∷ in-digits 8 (λ a. a .comparisons)
+    ∷ in-digits 8 (λ a. a .ones)
+    ∷ in-digits 4 (λ a. a .period)
+    ∷ in-digits 8 (λ a. a .bound)
+    ∷ []
 
 -- such lines of an answer, and how many bytes they have: the digits of each, and its end
 abbrev pub number-lines : List Answer-line → Answer → List ℕ

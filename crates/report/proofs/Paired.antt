@@ -18,6 +18,7 @@ use Rattle.job.proofs.RoundTrip.{good-lines-split}
 use Rattle.job.proofs.Taken.{file-taken}
 use Rattle.job.specs.Job.{m-in, n-in, bytes-in, text-in, pattern-in, q-in, good-line, good-lines, file-status}
 use Rattle.steps.proofs.Decide.{same-texts}
+use Rattle.steps.proofs.Text.{span-same}
 use Rattle.steps.specs.Occurrences.{occurrences}
 use Rattle.matcher.specs.Search.{search-done}
 use Rattle.frames.specs.Frames.{frames}
@@ -59,7 +60,7 @@ reports-paired file other e e' hold pattern size same =
     let inside : q < length w = omega arith in
     let (compared, found) = same-texts w t u (omega arith) size same in
     let shared : report-lines (convert-done w u) (occurrences w u) (frames q w u)
-    ≡ report-lines (converted (search-done w t) (ones-of u)) (occurrences w t) (frames q w u) = rw (compared, found) in (
+    ≡ report-lines (converted (search-done w t) (ones-of u)) (occurrences w t) (frames q w u) = rw (compared, found, span-same w t u size) in (
       record { lines-printed = printed-done file e; holds-printed = refl },
       record {
         lines-printed = printed-done other e' ∙ rw (hold, pattern) shared;

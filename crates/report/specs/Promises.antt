@@ -29,7 +29,7 @@ Input-right = (file : List ℕ) → seek-report (take input-room file) ≡ seek-
 abbrev pub Read-from : (buffer : List ℕ) → (bytes : ℕ) → (file : List ℕ) → Type 0
 Read-from buffer bytes file = take bytes buffer ≡ take (length buffer) file
 
--- the longest report: 163,863 bytes, of the numbers and a line for each of 16,384 occurrences (finds) and as many frames
+-- the longest report: 163,877 bytes, of the numbers and a line for each of 16,384 occurrences (finds) and as many frames
 abbrev pub longest-report : ℕ
 longest-report = report-length longest-text longest-text
 

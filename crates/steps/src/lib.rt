@@ -1,5 +1,7 @@
 // The steps of a search, run by the pattern's tables. The steps, the occurrences by their meaning and what is promised of them are in specs/.
 ghost use mathlib.Core.Path.{_≡_};
+ghost use Prim.Native.Nat.{_≤_};
+ghost use Rattle.steps.specs.Bound.{bound};
 ghost use Rattle.steps.specs.Run.{Alignment-compared, Run-ready, Run-outcome};
 ghost use Rattle.steps.specs.Steps.{step};
 ghost use Rattle.steps.specs.Text.{shown};
@@ -81,4 +83,20 @@ pub fn run_steps(
         occurrences: occurrences as u32,
         comparisons: comparisons as u32,
     }
+}
+
+// The most comparisons (looks) that demand 3 allows a search for a pattern (motif) of m bytes and this period in a text (chain) that goes as far as n,
+// with so many occurrences (finds). It is public for the crate that searches.
+pub fn comparison_bound(m: u32, n: u32, occurrences: u32, period: u32) -> u32
+    requires { ⌜ m ≤ 128 ⌝ }
+    requires { ⌜ n ≤ 65535 ⌝ }
+    requires { ⌜ occurrences ≤ n ⌝ }
+    requires { ⌜ period ≤ m ⌝ }
+    ensures { λ r. ⌜ r ≡ bound m n occurrences period ⌝ }
+{
+    if n < m {
+        return 0;
+    }
+    let beyond = if 2 * period < m { m - 2 * period } else { 0 };
+    2 * n - m + occurrences * beyond
 }

@@ -1,17 +1,22 @@
--- The tables' buffers: they are long enough just where 7 does not hold of them; what is left in them by a refused call, and by one that is done.
--- Each condition's test, turned into its bound and back; table by table.
+-- The tables' buffers: they are long enough just where 7 does not hold of them; what is left in them by a refused call, and by one that is done, and
+-- where the period stands then. Each condition's test, turned into its bound and back; table by table.
 use mathlib.Core.Bool.{false}
 use mathlib.Core.List.{List}
-use mathlib.Core.Path.{_≡_}
+use mathlib.Core.Path.{_≡_, refl, _∙_}
 use Prim.Native.Nat.{ℕ}
+use native.Mathlib.Omega.{arith}
 use borrow.Author.Tests.{ltb-false, le-ltb}
 use lib.Dec.{ltb}
-use lib.ListN.{length}
+use lib.ListN.{length, getD}
 use Rattle.answers.proofs.Answered.{refused-only}
+use Rattle.answers.proofs.Fronts.{in-front-entry}
 use Rattle.answers.proofs.Refusals.{neither, pattern-within}
 use Rattle.answers.specs.Answers.{if-done}
 use Rattle.answers.specs.Refusals.{pattern-refusal}
-use Rattle.tables.specs.Buffers.{Tables, lengths, needed, Tables-fit, tables-short, with-tables, tables-left, Tables-written}
+use Rattle.tables.proofs.LaterShift.{Δ2-facts}
+use Rattle.tables.proofs.Order.{Δ2-length}
+use Rattle.tables.specs.Buffers.{Tables, lengths, needed, Pattern-taken, Tables-fit, tables-short, with-tables, tables-left, Tables-written}
+use Rattle.tables.specs.Tables.{period, Δ2}
 
 module _ {w : List ℕ} {lent : Tables} where
   pub tables-fit : pattern-refusal (length w) .holds ≡ false → tables-short (length w) (lengths lent) ≡ false → Tables-fit w lent
@@ -34,6 +39,13 @@ module _ {w : List ℕ} {lent : Tables} where
   pub tables-done : {left : Tables} → Tables-written w lent left → left ≡ tables-left 0 w lent
   unfolding tables-left if-done
   tables-done r = λ i. record { order = r .order i; delta2 = r .delta2 i; delta1 = r .delta1 i }
+
+  -- Δ2's entry for an occurrence is the period
+  pub period-written : Pattern-taken w → {left : Tables} → Tables-written w lent left → getD (left .delta2) (length w) 0 ≡ period w
+  period-written taken r =
+      let m = length w in
+      rw (r .delta2) (in-front-entry (Δ2 w) (lent .delta2) m 0 (omega (arith, Δ2-length w (taken .some))))
+      ∙ Δ2-facts w (taken .some) m (taken .some) (omega arith) .whole refl
 
 -- a refused call leaves them
 pub tables-kept : (s : ℕ) (w : List ℕ) {lent : Tables} → (s ≡ 0 → ⊥) → lent ≡ tables-left s w lent

@@ -122,4 +122,5 @@ examples-hold =
     then (job-none 4097 0x00 b 0 refl ∙ cost-equal 4097 0x00 0x00, (cost-equal 4096 0x00 0x00, (cost-equal 4097 0x00 0x00, (cost-equal 4096 0x00 256, (cost-equal 4097 0x00 256, (cost-equal 16384 0xFF 256, (refl, (refl, (refl, (refl, (refl, (refl, tt))))))))))))
     then (record { answer = refl; tables = refl; occurrences-left = refl }, (record { answer = refl; tables = refl; occurrences-left = refl }, (record { answer = refl; tables = refl; occurrences-left = refl }, (record { answer = refl; tables = refl; occurrences-left = refl }, (record { answer = refl; tables = refl; occurrences-left = refl }, (record { answer = refl; tables = refl; occurrences-left = refl }, (record { answer = refl; tables = refl; occurrences-left = refl }, (refl, (refl, (refl, (refl, (refl, (refl, (refl, (refl, (refl, (refl, (refl, (refl, (refl, tt))))))))))))))))))))
     then (refl, (refl, (refl, (refl, tt))))
+    then (refl, (refl, (refl, (refl, (refl, (refl, (refl, (refl, (refl, (refl, (refl, (refl, (refl, tt)))))))))))))
     then tt

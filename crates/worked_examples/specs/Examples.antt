@@ -7,13 +7,13 @@ use Prim.Native.Nat.{ℕ}
 use Prim.Native.String.{String, [] as end, _∷_ as _then_}
 use lib.IntN.{ℤ, pos, negsuc}
 use lib.ListN.{length, drop, replicate}
-use Rattle.answers.specs.Answers.{prepared, answered}
+use Rattle.answers.specs.Answers.{answered}
 use Rattle.answers.specs.declared.Answer.{Answer}
 use Rattle.job.specs.Job.{job-file, file-status}
 use Rattle.job.specs.Read.{read-status}
 use Rattle.job.specs.Write.{write-status}
 use Rattle.tables.specs.Buffers.{Tables, tables, needed}
-use Rattle.tables.specs.Prepare.{prepare-status}
+use Rattle.tables.specs.Prepare.{prepare-status, prepare-done}
 use Rattle.tables.specs.Tables.{period, stored-order, Δ1, Δ2}
 use Rattle.tables.specs.declared.TableLengths.{TableLengths}
 use Rattle.steps.specs.Bound.{search-bound}
@@ -139,17 +139,21 @@ room o d2 d1 = record { order = o; delta2 = d2; delta1 = d1 }
 abbrev no-room : TableLengths
 no-room = room 0 0 0
 
--- an answer by its fields: the number, the finds, the looks and the holes
-abbrev answer : (status h C holes : ℕ) → Answer
-answer s h C o = record { status = s; occurrences = h; comparisons = C; ones = o }
+-- an answer by its fields: the number, the finds, the looks, the holes, p and the bound
+abbrev answer : (status h C holes p bound : ℕ) → Answer
+answer s h C o p most = record { status = s; occurrences = h; comparisons = C; ones = o; period = p; bound = most }
+
+-- an answer with zeros beside its number
+abbrev zeros-beside : (status : ℕ) → Answer
+zeros-beside s = answer s 0 0 0 0 0
 
 -- the same with the turned q
 abbrev turn-answered : (status q : ℕ) → TurnAnswer
-turn-answered s q = record { answer = answer s 0 0 0; q = q }
+turn-answered s q = record { answer = zeros-beside s; q = q }
 
 -- the same with the pence
 abbrev price-answered : (status pence : ℕ) → PriceAnswer
-price-answered s p = record { answer = answer s 0 0 0; pence = p }
+price-answered s p = record { answer = zeros-beside s; pence = p }
 
 -- buffers for the tables of a pattern of one byte, and one entry more in each: before a call, and with its tables
 abbrev lent-to-one : Tables
@@ -182,7 +186,7 @@ abbrev listing-file : String
 listing-file = "0105020009\n06\n06\n18\n06\n06\n06\n06\n18\n06\n06\n06\n18\n06\n06\n"
 
 abbrev listing-printed : String
-listing-printed = "0002\n0000000C\n00000012\n0000\n0004\n0006\n0006\n0100\n0006\n0006\n0006\n0100\n0006\n0006\n"
+listing-printed = "0002\n0000000C\n00000012\n0003\n0000000D\n0000\n0004\n0006\n0006\n0100\n0006\n0006\n0006\n0100\n0006\n0006\n"
 
 -- the table; above each row stands document 01's line, or document 02's
 unfoldable pub examples : List Example
@@ -315,14 +319,14 @@ examples =
     ∷ preparing-gives 1 (room 2 2 255) 7
     ∷ preparing-gives 1 (room 2 2 256) 0
     ∷ [])
-    -- What a call does not work out is 0: preparing none, searching h and C, converting all three, counting only the holes. Turned away, an
-    -- answer holds the refusal and zeros elsewhere
+    -- What a call does not work out is 0: of finds, looks and holes preparing works out none, searching h and C, converting all three, counting only
+    -- the holes. Turned away, an answer holds the refusal and zeros elsewhere
     ∷ row 17
-    (answers-are (answered 0 prepared) (answer 0 0 0 0)
-    ∷ answers-are (answered 0 (search-done aacaa listing)) (answer 0 2 12 0)
-    ∷ answers-are (answered 0 (convert-done aacaa listing)) (answer 0 2 12 18)
-    ∷ answers-are (count-answer (0xFF ∷ 0x00 ∷ [])) (answer 0 0 0 8)
-    ∷ answers-are (answered 7 (convert-done aacaa listing)) (answer 7 0 0 0)
+    (answers-are (answered 0 (prepare-done aacaa)) (answer 0 0 0 0 3 0)
+    ∷ answers-are (answered 0 (search-done aacaa listing)) (answer 0 2 12 0 3 13)
+    ∷ answers-are (answered 0 (convert-done aacaa listing)) (answer 0 2 12 18 3 13)
+    ∷ answers-are (count-answer (0xFF ∷ 0x00 ∷ [])) (answer 0 0 0 8 0 0)
+    ∷ answers-are (answered 7 (convert-done aacaa listing)) (zeros-beside 7)
     ∷ [])
     -- Document 02, "Mirrored edges": 0 as drawn, 1 cards mirrored, 2 order of cards reversed, 3 both; turning the order moves q to m - 1 - q
     ∷ row 18
@@ -367,10 +371,10 @@ examples =
     -- Finds, looks and holes are 0, and what is past n in the buffer stays
     ∷ row 21
     (frames-are 2 aacaa listing listing-frames
-    ∷ restoring-leaves 2 aacaa listing-frames (replicate 10 1) (a ∷ a ∷ c ∷ a ∷ a ∷ a ∷ c ∷ a ∷ a ∷ 1 ∷ []) (answer 0 0 0 0)
-    ∷ restoring-leaves 1 aaaa (a ∷ 256 ∷ 256 ∷ 256 ∷ a ∷ a ∷ []) (replicate 6 1) (replicate 6 a) (answer 0 0 0 0)
-    ∷ restoring-leaves 0 (c ∷ []) (0xFF ∷ 0 ∷ 256 ∷ []) (replicate 3 1) (0xFF ∷ 0 ∷ c ∷ []) (answer 0 0 0 0)
-    ∷ restoring-leaves 0 aac [] (1 ∷ []) (1 ∷ []) (answer 0 0 0 0)
+    ∷ restoring-leaves 2 aacaa listing-frames (replicate 10 1) (a ∷ a ∷ c ∷ a ∷ a ∷ a ∷ c ∷ a ∷ a ∷ 1 ∷ []) (zeros-beside 0)
+    ∷ restoring-leaves 1 aaaa (a ∷ 256 ∷ 256 ∷ 256 ∷ a ∷ a ∷ []) (replicate 6 1) (replicate 6 a) (zeros-beside 0)
+    ∷ restoring-leaves 0 (c ∷ []) (0xFF ∷ 0 ∷ 256 ∷ []) (replicate 3 1) (0xFF ∷ 0 ∷ c ∷ []) (zeros-beside 0)
+    ∷ restoring-leaves 0 aac [] (1 ∷ []) (1 ∷ []) (zeros-beside 0)
     ∷ restoring-gives 0 aaaa (256 ∷ 256 ∷ 256 ∷ a ∷ a ∷ a ∷ []) 6 0
     ∷ restoring-gives 3 aaaa (a ∷ a ∷ a ∷ 256 ∷ 256 ∷ 256 ∷ []) 6 0
     ∷ restoring-gives 1 (a ∷ a ∷ []) (a ∷ []) 1 0
@@ -387,21 +391,21 @@ examples =
     ∷ restoring-gives 1 (a ∷ a ∷ []) (256 ∷ []) 1 9
     ∷ restoring-gives 0 (a ∷ []) (512 ∷ []) 1 9
     ∷ restoring-gives 0 (a ∷ []) (65535 ∷ []) 1 9
-    ∷ restoring-leaves 0 aac (256 ∷ a ∷ a ∷ []) (1 ∷ 2 ∷ 3 ∷ []) (1 ∷ 2 ∷ 3 ∷ []) (answer 9 0 0 0)
-    ∷ restoring-leaves 0 aac (a ∷ a ∷ c ∷ []) (1 ∷ 2 ∷ 3 ∷ []) (1 ∷ 2 ∷ 3 ∷ []) (answer 9 0 0 0)
-    ∷ restoring-leaves 1 aac (256 ∷ a ∷ c ∷ []) (1 ∷ 2 ∷ 3 ∷ []) (1 ∷ 2 ∷ 3 ∷ []) (answer 9 0 0 0)
-    ∷ restoring-leaves 0 aac (256 ∷ a ∷ c ∷ 256 ∷ []) (replicate 4 1) (replicate 4 1) (answer 9 0 0 0)
-    ∷ restoring-leaves 1 aaaa (a ∷ 256 ∷ 256 ∷ a ∷ a ∷ a ∷ []) (replicate 6 1) (replicate 6 1) (answer 9 0 0 0)
-    ∷ restoring-leaves 0 (c ∷ []) (257 ∷ []) (1 ∷ []) (1 ∷ []) (answer 9 0 0 0)
+    ∷ restoring-leaves 0 aac (256 ∷ a ∷ a ∷ []) (1 ∷ 2 ∷ 3 ∷ []) (1 ∷ 2 ∷ 3 ∷ []) (zeros-beside 9)
+    ∷ restoring-leaves 0 aac (a ∷ a ∷ c ∷ []) (1 ∷ 2 ∷ 3 ∷ []) (1 ∷ 2 ∷ 3 ∷ []) (zeros-beside 9)
+    ∷ restoring-leaves 1 aac (256 ∷ a ∷ c ∷ []) (1 ∷ 2 ∷ 3 ∷ []) (1 ∷ 2 ∷ 3 ∷ []) (zeros-beside 9)
+    ∷ restoring-leaves 0 aac (256 ∷ a ∷ c ∷ 256 ∷ []) (replicate 4 1) (replicate 4 1) (zeros-beside 9)
+    ∷ restoring-leaves 1 aaaa (a ∷ 256 ∷ 256 ∷ a ∷ a ∷ a ∷ []) (replicate 6 1) (replicate 6 1) (zeros-beside 9)
+    ∷ restoring-leaves 0 (c ∷ []) (257 ∷ []) (1 ∷ []) (1 ∷ []) (zeros-beside 9)
     ∷ [])
     -- The new buffer for cards needs n entries, under 7; 9 after 4 to 7. The first five meet every later condition too
     ∷ row 23
-    (restoring-leaves 0 [] (replicate 16385 257) (1 ∷ []) (1 ∷ []) (answer 4 0 0 0)
-    ∷ restoring-leaves 129 (replicate 129 a) (replicate 16385 257) (1 ∷ []) (1 ∷ []) (answer 4 0 0 0)
-    ∷ restoring-leaves 1 (a ∷ []) (replicate 16385 257) (1 ∷ []) (1 ∷ []) (answer 5 0 0 0)
-    ∷ restoring-leaves 0 (a ∷ []) (replicate 16385 257) (1 ∷ []) (1 ∷ []) (answer 6 0 0 0)
-    ∷ restoring-leaves 0 (a ∷ []) (257 ∷ a ∷ []) (1 ∷ []) (1 ∷ []) (answer 7 0 0 0)
-    ∷ restoring-leaves 0 (a ∷ []) (256 ∷ c ∷ []) (1 ∷ []) (1 ∷ []) (answer 7 0 0 0)
+    (restoring-leaves 0 [] (replicate 16385 257) (1 ∷ []) (1 ∷ []) (zeros-beside 4)
+    ∷ restoring-leaves 129 (replicate 129 a) (replicate 16385 257) (1 ∷ []) (1 ∷ []) (zeros-beside 4)
+    ∷ restoring-leaves 1 (a ∷ []) (replicate 16385 257) (1 ∷ []) (1 ∷ []) (zeros-beside 5)
+    ∷ restoring-leaves 0 (a ∷ []) (replicate 16385 257) (1 ∷ []) (1 ∷ []) (zeros-beside 6)
+    ∷ restoring-leaves 0 (a ∷ []) (257 ∷ a ∷ []) (1 ∷ []) (1 ∷ []) (zeros-beside 7)
+    ∷ restoring-leaves 0 (a ∷ []) (256 ∷ c ∷ []) (1 ∷ []) (1 ∷ []) (zeros-beside 7)
     ∷ restoring-gives 0 (a ∷ []) (256 ∷ c ∷ []) 2 0
     ∷ restoring-gives 0 (a ∷ []) (replicate 16384 257) 16383 7
     ∷ restoring-gives 4294967295 (a ∷ []) (257 ∷ []) 0 5
@@ -471,6 +475,23 @@ examples =
     ∷ word-is (replicate 8 0xFF) 0xFFFFFFFFFFFFFFFF
     ∷ word-is (0x80 ∷ []) 0x80
     ∷ ones-are (0x01 ∷ 0x02 ∷ 0x03 ∷ 0x04 ∷ 0x05 ∷ 0x06 ∷ 0x07 ∷ 0x08 ∷ 0x09 ∷ []) 15
+    ∷ [])
+    -- Document 02, "Write out the period and the bound": searching and converting work out p and the bound, preparing only p, counting neither. The bound
+    -- is 0 for n below m, where p is given too. A job turned away has zeros there
+    ∷ row 28
+    (answers-are (answered 0 (prepare-done cbaaa)) (answer 0 0 0 0 5 0)
+    ∷ answers-are (answered 4 (prepare-done [])) (zeros-beside 4)
+    ∷ answers-are (answered 0 (search-done aaaa (replicate 6 a))) (answer 0 3 12 0 1 14)
+    ∷ answers-are (answered 0 (search-done cbaaa cbaaa)) (answer 0 1 5 0 5 5)
+    ∷ answers-are (answered 0 (search-done aaaa (replicate 3 a))) (answer 0 0 0 0 1 0)
+    ∷ answers-are (answered 0 (convert-done aacaa [])) (answer 0 0 0 0 3 0)
+    ∷ answers-are (answered 0 (convert-done aacaa (a ∷ a ∷ c ∷ a ∷ []))) (answer 0 0 0 8 3 0)
+    ∷ answers-are (answered 6 (search-done aacaa listing)) (zeros-beside 6)
+    ∷ bound-is (a ∷ a ∷ []) (replicate 5 c) 8
+    ∷ bound-is (a ∷ a ∷ []) (replicate 5 a) 8
+    ∷ bound-is (a ∷ a ∷ a ∷ []) (replicate 5 c) 7
+    ∷ bound-is (a ∷ a ∷ a ∷ []) (replicate 5 a) 10
+    ∷ seek-prints "0105020000\n06\n06\n18\n06\n06\n" "0000\n00000000\n00000000\n0003\n00000000\n"
     ∷ [])
     ∷ []
 

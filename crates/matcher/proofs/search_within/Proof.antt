@@ -1,7 +1,8 @@
--- `matcher::search_within` meets its contract: the tables are written, and the steps run by them.
+-- `matcher::search_within` meets its contract: the tables are written, the steps run by them, and the bound worked out from what they count.
 -- By the laws of a search that is taken and done. Assumes nothing.
+use native.Mathlib.Omega.{arith}
 use borrow.Author.Needs.{needs}
-use Rattle.matcher.proofs.Searched.{Search-fit, search-fit, run-ready, done}
+use Rattle.matcher.proofs.Searched.{Search-fit, search-fit, run-ready, bound-ready, done}
 use Rattle.matcher.proofs.search_within.Statement.{statement}
 use Rattle.matcher.proofs.search_within.Tie as tie
 use Rattle.tables.specs.Buffers.{tables}
@@ -13,8 +14,8 @@ start c = c .before .before .before .before .before .before .before .before
 abbrev written : tie.After-run-steps-arg4 → tie.After-write-tables
 written c = c .before .before .before .before .before .before .before .before .before
 
-abbrev ran : tie.After-searched → tie.After-run-steps
-ran c = c .before .before .before
+abbrev ran : tie.After-slice-known6 → tie.After-run-steps
+ran c = c .before .before
 
 -- the search is taken
 fit :
@@ -23,13 +24,20 @@ fit :
 fit c = search-fit (start c .pre)
 
 run-steps-requires : tie.Need-run-steps-requires
-run-steps-requires c κs = let d = written c in run-ready (d .write-tables .ensures) (fit (d .before))
+run-steps-requires c κs = let d = written c in run-ready (d .write-tables .ensures .1) (fit (d .before))
+
+comparison-bound-requires : tie.Need-comparison-bound-requires
+comparison-bound-requires c κs =
+    let d = ran c in
+    let e = written (d .before) in
+    bound-ready (fit (e .before)) (e .write-tables .ensures .0) (d .run-steps .ensures)
 
 returns : tie.Need-returns
 returns c =
-    let d = ran c in
+    let d = ran (c .before .before) in
     let e = written (d .before) in
-    rw (c .searched .ensures, start (e .before) .pre) (done (e .write-tables .ensures) (d .run-steps .ensures))
+    let (period, all) = e .write-tables .ensures in
+    rw (c .searched .ensures, start (e .before) .pre) (done all period (d .run-steps .ensures) (c .before .comparison-bound .ensures))
 
 pub search-within-spec : {M : Type 1} → statement M
 search-within-spec =
@@ -37,7 +45,10 @@ search-within-spec =
     (tie.spec
     (λ c κs. fit c .tables)
     run-steps-requires
-    (λ c κs. tt)
+    (λ c. omega (arith, fit (written (ran c .before) .before)))
+    (λ c. omega (arith, fit (written (ran c .before) .before)))
+    comparison-bound-requires
+    (λ c κs. search needs)
     (λ c. search needs)
     (λ c. search needs)
     (λ c. search needs)

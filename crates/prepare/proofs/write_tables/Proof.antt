@@ -1,0 +1,42 @@
+-- `prepare::write_tables` meets its contract: each table is written by its own function, and the period stands in Δ2.
+-- Assumes nothing.
+use native.Mathlib.Omega.{arith}
+use borrow.Author.Needs.{needs}
+use lib.ListN.{length}
+use Rattle.prepare.proofs.write_tables.Statement.{statement}
+use Rattle.prepare.proofs.write_tables.Tie as tie
+use Rattle.tables.proofs.Rooms.{period-written}
+use Rattle.tables.specs.Buffers.{tables, Tables-written}
+
+-- the way back from a place of the code to an earlier one
+abbrev start : tie.After-write-order-and-delta2 → tie.Start
+start c = c .before .before .before .before .before .before
+
+abbrev lowered : tie.After-slice-known5 → tie.After-write-delta1
+lowered c = c .before .before .before
+
+abbrev ordered : tie.After-write-delta1 → tie.After-write-order-and-delta2
+ordered c = c .before .before .before .before .before
+
+returns : tie.Need-returns
+returns c =
+    let rows = lowered c in
+    let others = ordered rows in
+    let a = start others .args in
+    let all : Tables-written (a .pattern .now) (tables (a .order .now) (a .delta2 .now) (a .delta1 .now)) (tables _ _ _)
+    = record { order = others .write-order-and-delta2 .ensures .0; delta2 = others .write-order-and-delta2 .ensures .1; delta1 = rows .write-delta1 .ensures } in
+    (period-written (start others .pre .taken) all, all)
+
+pub write-tables-spec : {M : Type 1} → statement M
+write-tables-spec =
+    tie.close
+    (tie.spec
+    (λ c κs. search needs)
+    (λ c κs. search needs)
+    (λ c. search needs)
+    (λ c. search needs)
+    (λ c. omega (arith, c .slice-known5 .given (length (start (ordered (lowered c)) .args .pattern .now))))
+    (λ c. search needs)
+    (λ c. search needs)
+    (λ c. search needs)
+    returns)
