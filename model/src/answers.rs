@@ -52,6 +52,10 @@ pub struct Answer {
     pub comparisons: u32,
     /// The ones of the text.
     pub ones: u32,
+    /// p, the period of the pattern.
+    pub period: u32,
+    /// The bound of demand 3 on C: 0 for a text that is shorter than the pattern.
+    pub bound: u32,
 }
 
 /// What reading a job file answers.

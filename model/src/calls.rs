@@ -165,6 +165,10 @@ fn try_prepare(pattern: &[u8], lengths: TableLengths) -> Result<Outcome, Refusal
     lengths.check(pattern.len())?;
     let tables = Tables::of(pattern);
     Ok(Outcome {
+        answer: Answer {
+            period: count(tables.period),
+            ..Answer::default()
+        },
         order: tables.order,
         delta1: tables.delta1,
         delta2: tables.delta2,
@@ -195,10 +199,13 @@ fn try_search(
     let tables = Tables::of(pattern);
     let comparisons = steps::search_with(&tables, pattern, text).comparisons.len();
     let occurrences = convert::occurrences(pattern, text);
+    let bound = steps::bound(&tables, text.len(), occurrences.len());
     Ok(Outcome {
         answer: Answer {
             occurrences: count(occurrences.len()),
             comparisons: count(comparisons),
+            period: count(tables.period),
+            bound: count(bound),
             ..Answer::default()
         },
         order: tables.order,

@@ -61,7 +61,7 @@ fn compare(pattern: &[u8], text: &[u8], b: usize, i: usize, done: &mut Search) -
 
 /// The bound of demand 3 on the comparisons of a search with h occurrences: 2 n less m, and for
 /// each occurrence what the pattern has beyond twice its period. A text that is shorter than the
-/// pattern has no comparisons.
+/// pattern has no comparisons, and the bound is 0.
 pub fn bound(tables: &Tables, n: usize, h: usize) -> usize {
     if n < tables.m {
         0

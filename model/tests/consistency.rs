@@ -16,6 +16,19 @@ use ruffarmoire_model::turn::{
     mirrored, turned_bytes, turned_frames, turned_job, turned_occurrences, Way, WAYS,
 };
 
+/// The bound of a search with h occurrences, once more: two comparisons for each position before the
+/// last where the pattern fits, a whole pattern there, and for each occurrence the bytes of the pattern
+/// past its first two periods.
+fn bound_by_parts(pattern: &[u8], n: usize, h: usize) -> usize {
+    match n.checked_sub(pattern.len()) {
+        Some(last) => {
+            let past = pattern.iter().skip(2 * period(pattern)).count();
+            2 * last + pattern.len() + h * past
+        }
+        None => 0,
+    }
+}
+
 /// The steps find what occurs, within the bound.
 fn check_search(tables: &Tables, pattern: &[u8], text: &[u8]) -> Search {
     let done = search_with(tables, pattern, text);
@@ -26,8 +39,10 @@ fn check_search(tables: &Tables, pattern: &[u8], text: &[u8]) -> Search {
         "{}",
         context()
     );
-    let bound = bound(tables, text.len(), done.occurrences.len());
+    let (n, h) = (text.len(), done.occurrences.len());
+    let bound = bound(tables, n, h);
     assert!(done.comparisons.len() <= bound, "{}", context());
+    assert_eq!(bound, bound_by_parts(pattern, n, h), "{}", context());
     done
 }
 
@@ -85,17 +100,22 @@ fn word(number: usize, base: usize, length: usize) -> Vec<u8> {
 
 #[test]
 fn all_short_texts_over_two_bytes() {
+    // How many searches have comparisons and meet their bound, by the pattern's length.
+    let mut met = [0; 6];
     for m in 1..=6 {
         for pattern_number in 0..1 << m {
             let pattern = word(pattern_number, 2, m);
             let tables = Tables::of(&pattern);
             for n in 0..=11 {
                 for text_number in 0..1 << n {
-                    check_search(&tables, &pattern, &word(text_number, 2, n));
+                    let done = check_search(&tables, &pattern, &word(text_number, 2, n));
+                    let bound = bound(&tables, n, done.occurrences.len());
+                    met[m - 1] += usize::from(bound > 0 && done.comparisons.len() == bound);
                 }
             }
         }
     }
+    assert_eq!(met, [4, 44, 18, 58, 110, 256]);
 }
 
 #[test]
@@ -156,7 +176,8 @@ fn largest_searches() {
     }
 }
 
-/// One byte throughout is the dearest text for its pattern: every alignment compares all.
+/// One byte throughout is the dearest text for its pattern: every alignment compares all, and m - 2
+/// comparisons more would meet the bound.
 #[test]
 fn comparisons_of_one_byte_throughout() {
     for m in [2, 5, 128] {
@@ -164,6 +185,8 @@ fn comparisons_of_one_byte_throughout() {
         let tables = Tables::of(&pattern);
         let done = check_search(&tables, &pattern, &text);
         assert_eq!(done.comparisons.len(), (300 - m + 1) * m);
+        let bound = bound(&tables, 300, done.occurrences.len());
+        assert_eq!(bound, done.comparisons.len() + m - 2);
     }
 }
 
@@ -272,6 +295,13 @@ fn calls_agree_with_seek() {
         assert_eq!(converted.answer.comparisons, searched.answer.comparisons);
         assert_eq!(converted.answer.ones, counted.ones);
         assert_eq!(searched.answer.ones, 0);
+        assert_eq!(converted.answer.period, searched.answer.period);
+        assert_eq!(converted.answer.period, prepared.answer.period);
+        assert_eq!(converted.answer.bound, searched.answer.bound);
+        assert_eq!(
+            [prepared.answer.bound, counted.bound, counted.period],
+            [0; 3]
+        );
         assert_eq!(converted.occurrences, searched.occurrences);
         assert_eq!(
             (&prepared.order, &prepared.delta1, &prepared.delta2),
@@ -284,13 +314,15 @@ fn calls_agree_with_seek() {
             .map(|line| usize::from_str_radix(line, 16).unwrap())
             .collect();
         let h = converted.occurrences.len();
-        assert_eq!(lines.len(), 3 + h + n);
+        assert_eq!(lines.len(), 5 + h + n);
         assert_eq!(lines[0], h);
         assert_eq!(lines[1], converted.answer.comparisons as usize);
         assert_eq!(lines[2], converted.answer.ones as usize);
-        assert_eq!(lines[3..3 + h], converted.occurrences);
+        assert_eq!(lines[3], converted.answer.period as usize);
+        assert_eq!(lines[4], converted.answer.bound as usize);
+        assert_eq!(lines[5..5 + h], converted.occurrences);
         let frames: Vec<usize> = converted.frames.iter().map(|&f| f.into()).collect();
-        assert_eq!(lines[3 + h..], frames);
+        assert_eq!(lines[5 + h..], frames);
     }
 }
 

@@ -16,6 +16,7 @@ use std::sync::mpsc::channel;
 use std::thread;
 use std::time::Duration;
 
+use common::bounds;
 use common::examples::example_jobs;
 use common::files::{largest_job, small_job, spoiled_files};
 use ruffarmoire_model::gen::{Random, SHAPES};
@@ -139,7 +140,7 @@ fn check_job(job: &Job, way: Way) {
 #[test]
 fn listing() {
     let file = b"0105020009\n06\n06\n18\n06\n06\n06\n06\n18\n06\n06\n06\n18\n06\n06\n";
-    let printed = b"0002\n0000000C\n00000012\n0000\n0004\n\
+    let printed = b"0002\n0000000C\n00000012\n0003\n0000000D\n0000\n0004\n\
                     0006\n0006\n0100\n0006\n0006\n0006\n0100\n0006\n0006\n";
     for way in [Way::File, Way::Pipe, Way::Pieces(1)] {
         assert_eq!(run(file, way), printed);
@@ -150,6 +151,15 @@ fn listing() {
 fn worked_examples() {
     for job in example_jobs() {
         check_job(&job, Way::Pipe);
+    }
+}
+
+#[test]
+fn periods_and_bounds() {
+    for (round, search) in bounds::written_out().enumerate() {
+        let file = job::write(&search.job());
+        let printed = run(&file, [Way::File, Way::Pipe][round % 2]);
+        search.expect_printed(&String::from_utf8(printed).expect("digits and line ends"));
     }
 }
 

@@ -3,8 +3,11 @@
 
 mod common;
 
+use std::mem::offset_of;
+
+use common::bounds;
 use common::lengths::BufferLengths;
-use ruffarmoire_model::answers::Answer;
+use ruffarmoire_model::answers::{Answer, PriceAnswer, ReadAnswer};
 use ruffarmoire_model::calls::{self, TableLengths};
 use ruffarmoire_model::job::{self, Job};
 use ruffarmoire_model::steps::{bound, search};
@@ -14,6 +17,9 @@ use ruffarmoire_model::{convert, price, seek};
 const A: u8 = 0x06;
 const B: u8 = 0x01;
 const C: u8 = 0x18;
+
+/// The job of SEEK's listing.
+const LISTING: &[u8] = b"0105020009\n06\n06\n18\n06\n06\n06\n06\n18\n06\n06\n06\n18\n06\n06\n";
 
 /// The occurrences and the number of comparisons, once by the steps; the occurrences also by their
 /// meaning.
@@ -92,19 +98,141 @@ fn example_10_ones() {
     assert_eq!(calls::count_ones(&[0xFF, 0x00]).ones, 8);
 }
 
+/// The searches whose period and bound are written out, by each call that works one out, and in what
+/// SEEK prints.
+#[test]
+fn periods_and_bounds() {
+    for search in bounds::written_out() {
+        let (pattern, text) = (&search.pattern, &search.text);
+        let n = text.len();
+        let lengths = TableLengths::needed(pattern.len());
+        let prepared = calls::prepare(pattern, lengths).answer;
+        assert_eq!((prepared.period, prepared.bound), (search.period, 0));
+        let searched = calls::search(pattern, text, lengths, n).answer;
+        assert_eq!(
+            (searched.period, searched.comparisons, searched.bound),
+            (search.period, search.comparisons, search.bound)
+        );
+        let converted = calls::convert(0, pattern, text, lengths, n, n).answer;
+        let ones = convert::ones(text);
+        assert_eq!(converted, Answer { ones, ..searched });
+        search.expect_printed(&seek::seek(&job::write(&search.job())));
+    }
+}
+
+/// What each call answers for the listing. What a call does not work out is 0.
+#[test]
+fn answers_of_the_calls() {
+    let pattern = [A, A, C, A, A];
+    let text = [A, A, C, A, A, A, C, A, A];
+    let frames = [6, 6, 256, 6, 6, 6, 256, 6, 6];
+    let lengths = TableLengths::needed(5);
+    let expect = |answer: Answer, [occurrences, comparisons, ones, period, bound]: [u32; 5]| {
+        let expected = Answer {
+            status: 0,
+            occurrences,
+            comparisons,
+            ones,
+            period,
+            bound,
+        };
+        assert_eq!(answer, expected);
+    };
+    let prepared = calls::prepare(&pattern, lengths);
+    expect(prepared.answer, [0, 0, 0, 3, 0]);
+    let searched = calls::search(&pattern, &text, lengths, 9);
+    expect(searched.answer, [2, 12, 0, 3, 13]);
+    let converted = calls::convert(2, &pattern, &text, lengths, 9, 9);
+    expect(converted.answer, [2, 12, 18, 3, 13]);
+    expect(calls::count_ones(&text), [0, 0, 18, 0, 0]);
+    expect(calls::read_job(LISTING, 5, 9).answer.answer, [0; 5]);
+    let written = calls::write_job(2, &pattern, &text, LISTING.len());
+    expect(written.answer.answer, [0; 5]);
+    expect(calls::seek_report(LISTING, 200).answer.answer, [0; 5]);
+    let turned = calls::turn(3, 2, &pattern, &text, 5, 9);
+    expect(turned.answer.answer, [0; 5]);
+    expect(calls::restore(2, &pattern, &frames, 9).answer, [0; 5]);
+    let priced = calls::price(2, &pattern, &text, lengths, 9);
+    expect(priced.answer.answer, [0; 5]);
+    expect(priced.left.answer, [0; 5]);
+}
+
+/// A refused answer has its number, and zeros also in what the call works out when it is done.
+#[test]
+fn refused_answers() {
+    let (pattern, text, long) = ([A; 4], [A; 6], [A; 16_385]);
+    let enough = TableLengths::needed(4);
+    let short = enough.changed(|length| length - 1);
+    for (answer, status) in [
+        (calls::read_job(b"", 4, 6).answer.answer, 1),
+        (calls::read_job(LISTING, 4, 9).answer.answer, 7),
+        (calls::write_job(4, &pattern, &text, 41).answer.answer, 5),
+        (calls::write_job(3, &pattern, &text, 40).answer.answer, 7),
+        (calls::prepare(&[], enough).answer, 4),
+        (calls::prepare(&pattern, short).answer, 7),
+        (calls::search(&[], &text, enough, 6).answer, 4),
+        (calls::search(&pattern, &long, enough, 16_385).answer, 6),
+        (calls::search(&pattern, &text, short, 6).answer, 7),
+        (calls::search(&pattern, &text, enough, 5).answer, 7),
+        (calls::convert(0, &[], &text, enough, 6, 6).answer, 4),
+        (calls::convert(4, &pattern, &text, enough, 6, 6).answer, 5),
+        (calls::convert(0, &pattern, &long, enough, 0, 0).answer, 6),
+        (calls::convert(0, &pattern, &text, short, 6, 6).answer, 7),
+        (calls::convert(0, &pattern, &text, enough, 5, 6).answer, 7),
+        (calls::convert(0, &pattern, &text, enough, 6, 5).answer, 7),
+        (calls::count_ones(&long), 6),
+        (calls::seek_report(LISTING, 20).answer.answer, 7),
+        (calls::turn(4, 0, &pattern, &text, 4, 6).answer.answer, 8),
+        (calls::restore(0, &pattern, &[257], 1).answer, 9),
+        (calls::price(4, &pattern, &text, enough, 6).answer.answer, 5),
+        (calls::price(0, &pattern, &text, enough, 5).answer.answer, 7),
+    ] {
+        let expected = Answer {
+            status,
+            occurrences: 0,
+            comparisons: 0,
+            ones: 0,
+            period: 0,
+            bound: 0,
+        };
+        assert_eq!(answer, expected);
+    }
+}
+
+/// As C sees it, an answer is six numbers of 32 bits, and what a call answers more stands behind them.
+#[test]
+fn layout_of_answers() {
+    let offsets = [
+        offset_of!(Answer, status),
+        offset_of!(Answer, occurrences),
+        offset_of!(Answer, comparisons),
+        offset_of!(Answer, ones),
+        offset_of!(Answer, period),
+        offset_of!(Answer, bound),
+    ];
+    assert_eq!(offsets, [0, 4, 8, 12, 16, 20]);
+    assert_eq!(size_of::<Answer>(), 24);
+    assert_eq!(offset_of!(PriceAnswer, pence), 24);
+    let read = [
+        offset_of!(ReadAnswer, m),
+        offset_of!(ReadAnswer, q),
+        offset_of!(ReadAnswer, n),
+    ];
+    assert_eq!(read, [24, 28, 32]);
+}
+
 #[test]
 fn seek_listing() {
-    let file = "0105020009\n06\n06\n18\n06\n06\n06\n06\n18\n06\n06\n06\n18\n06\n06\n";
-    let printed = "0002\n0000000C\n00000012\n0000\n0004\n\
+    let printed = "0002\n0000000C\n00000012\n0003\n0000000D\n0000\n0004\n\
                    0006\n0006\n0100\n0006\n0006\n0006\n0100\n0006\n0006\n";
-    assert_eq!(seek::seek(file.as_bytes()), printed);
+    assert_eq!(seek::seek(LISTING), printed);
     let job = Job {
         pattern: vec![A, A, C, A, A],
         hold: 2,
         text: vec![A, A, C, A, A, A, C, A, A],
     };
-    assert_eq!(job::read(file.as_bytes()), Ok(job.clone()));
-    assert_eq!(job::write(&job), file.as_bytes());
+    assert_eq!(job::read(LISTING), Ok(job.clone()));
+    assert_eq!(job::write(&job), LISTING);
 }
 
 #[test]
@@ -119,7 +247,7 @@ fn seek_refused() {
     assert_eq!(seek::seek(b"0101000000\n0a\n"), "FF02\n");
     assert_eq!(
         seek::seek(b"0101000000\n0A\n"),
-        "0000\n00000000\n00000000\n"
+        "0000\n00000000\n00000000\n0001\n00000000\n"
     );
 }
 

@@ -4,9 +4,10 @@
 use std::hint::black_box;
 
 use ruffarmoire_model::answers::{Answer, ReadAnswer, ReportAnswer, WriteAnswer};
+use ruffarmoire_model::calls::{self, TableLengths};
 use ruffarmoire_model::gen::{Random, Shape};
 use ruffarmoire_model::job::{self, Job};
-use ruffarmoire_model::{calls, convert, seek};
+use ruffarmoire_model::seek;
 
 use crate::baseline;
 use crate::library;
@@ -145,9 +146,11 @@ fn converting(job: &Job, call: Convert) -> Timed<'_> {
             &mut lent.frames,
         )
     };
-    assert_eq!(convert_to(&mut lent).status, 0);
-    let frames = convert::frames(&job.pattern, job.hold, &job.text);
-    assert_eq!(lent.frames, frames);
+    let lengths = TableLengths::needed(job.pattern.len());
+    let hold = job.hold as u32;
+    let expected = calls::convert(hold, &job.pattern, &job.text, lengths, n, n);
+    assert_eq!(convert_to(&mut lent), expected.answer);
+    assert_eq!(lent.frames, expected.frames);
     Timed::new(1, move || {
         black_box(convert_to(&mut lent));
         black_box(&mut lent);

@@ -110,10 +110,12 @@ pub fn timed(patterns: &[Vec<u8>], call: Prepare) -> Timed<'_> {
     for pattern in patterns {
         let prepare = |call: Prepare, tables: &mut TableBuffers| {
             let (order, delta2) = (&mut tables.order, &mut tables.delta2);
-            assert_eq!(call(pattern, order, delta2, &mut tables.delta1).status, 0);
+            let answer = call(pattern, order, delta2, &mut tables.delta1);
+            assert_eq!(answer.status, 0);
+            answer
         };
-        prepare(call, &mut tables);
-        prepare(prepare_as_listed, &mut expected);
+        let answer = prepare(call, &mut tables);
+        assert_eq!(answer, prepare(prepare_as_listed, &mut expected));
         assert!(tables == expected, "the tables of {pattern:?}");
     }
     Timed::new(patterns.len(), move || {

@@ -11,7 +11,7 @@ use ruffarmoire_model::job::{self, Job};
 use ruffarmoire_model::seek::seek;
 use ruffarmoire_model::MAX_TEXT;
 
-use crate::baseline::report::seek_report;
+use crate::baseline::report::{seek_report, NUMBERS};
 use crate::seek_program::PROGRAM;
 use crate::timing::{medians, Timed};
 
@@ -19,7 +19,7 @@ use crate::timing::{medians, Timed};
 pub const AS_SEEK: &str = "--as-seek";
 
 /// The most bytes that a report has.
-const MAX_REPORT: usize = 23 + 5 * MAX_TEXT + 5 * MAX_TEXT;
+const MAX_REPORT: usize = NUMBERS + 5 * MAX_TEXT + 5 * MAX_TEXT;
 
 /// Does what SEEK does, by the plain Rust versions of the calls.
 pub fn be_seek() {

@@ -31,6 +31,7 @@ pub trait ConverterCalls {
 macro_rules! converter_suite {
     ($calls:ty) => {
         searching_tests!(crate::common::converter_suite::Convert<$calls>);
+        bound_tests!(crate::common::converter_suite::Convert<$calls>);
         tests_of!(searching, crate::common::converter_suite::Convert<$calls>: every_hold_offset,);
         tests_of!(converter_suite, $calls:
             worked_examples,
@@ -107,11 +108,15 @@ pub fn worked_examples<T: ConverterCalls>() {
     const C: u8 = 0x18;
     let listing = [A, A, C, A, A, A, C, A, A];
     let outcome = check_exact::<Convert<T>>(Input::new(2, &[A, A, C, A, A], &listing));
-    let answer = outcome.answer;
-    assert_eq!(
-        (answer.occurrences, answer.comparisons, answer.ones),
-        (2, 12, 18)
-    );
+    let expected = Answer {
+        status: 0,
+        occurrences: 2,
+        comparisons: 12,
+        ones: 18,
+        period: 3,
+        bound: 13,
+    };
+    assert_eq!(outcome.answer, expected);
     assert_eq!(outcome.frames, [6, 6, 256, 6, 6, 6, 256, 6, 6]);
     // Holds marked in the text while searching would hide the occurrences after the first.
     let outcome = check_exact::<Convert<T>>(Input::new(3, &[A; 4], &[A; 6]));

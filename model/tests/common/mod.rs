@@ -7,6 +7,7 @@
 #[macro_use]
 pub mod harness;
 
+pub mod bounds;
 pub mod examples;
 pub mod files;
 pub mod lengths;

@@ -5,10 +5,11 @@ use ruffarmoire_model::answers::Answer;
 use ruffarmoire_model::calls::{self, Outcome, TableLengths};
 use ruffarmoire_model::gen::{Random, Shape, SHAPES};
 
+use super::bounds;
 use super::harness::{reserved, shown};
 use super::lengths::BufferLengths;
 use super::table_buffers::{longer, LentTables, TableBuffers};
-use super::words::{structured_words, words};
+use super::words::{period, structured_words, words};
 
 /// An implementation of preparing a pattern.
 pub trait PrepareCalls {
@@ -20,6 +21,7 @@ macro_rules! prepare_suite {
     ($calls:ty) => {
         tests_of!(prepare_suite, $calls:
             worked_examples,
+            periods,
             all_short_patterns,
             generated_patterns,
             structured_patterns,
@@ -47,12 +49,20 @@ fn check_prepare<T: PrepareCalls>(pattern: &[u8], lengths: TableLengths) -> Outc
     expected
 }
 
+/// What preparing a pattern with this period answers.
+fn answer(period: u32) -> Answer {
+    Answer {
+        period,
+        ..Answer::default()
+    }
+}
+
 /// A pattern within the limits, with buffers that are exact, longer, and one too short for each.
 fn check_pattern<T: PrepareCalls>(pattern: &[u8]) {
     let m = pattern.len();
     let needed = TableLengths::needed(m);
     let exact = check_prepare::<T>(pattern, needed);
-    assert_eq!(exact.answer, Answer::default());
+    assert_eq!(exact.answer, answer(period(pattern)));
     assert_eq!(check_prepare::<T>(pattern, longer(m)), exact);
     for lengths in needed.one_too_short(needed) {
         assert_eq!(check_prepare::<T>(pattern, lengths).answer.status, 7);
@@ -63,19 +73,35 @@ pub fn worked_examples<T: PrepareCalls>() {
     const A: u8 = 0x06;
     const B: u8 = 0x01;
     const C: u8 = 0x18;
-    let examples: [([u8; 5], [i16; 6], [usize; 6]); 2] = [
-        ([A, A, C, A, A], [4, 3, 0, 1, 2, -1], [0, 1, 3, 3, 3, 3]),
-        ([C, B, A, A, A], [4, 2, 3, 0, 1, -1], [0, 1, 2, 5, 5, 5]),
-    ];
-    for (pattern, order, delta2) in examples {
-        check_pattern::<T>(&pattern);
-        let outcome = check_prepare::<T>(&pattern, TableLengths::needed(5));
+    let expect = |pattern: &[u8], period: u32, order: [i16; 6], delta2: [usize; 6]| {
+        check_pattern::<T>(pattern);
+        let outcome = check_prepare::<T>(pattern, TableLengths::needed(5));
+        assert_eq!(outcome.answer, answer(period));
         assert_eq!(outcome.order, order);
         assert_eq!(outcome.delta2, delta2);
-    }
+    };
+    expect(&[A, A, C, A, A], 3, [4, 3, 0, 1, 2, -1], [0, 1, 3, 3, 3, 3]);
+    expect(&[C, B, A, A, A], 5, [4, 2, 3, 0, 1, -1], [0, 1, 2, 5, 5, 5]);
     let outcome = check_prepare::<T>(&[A, A, C, A, A], TableLengths::needed(5));
     let shift = |s: usize| outcome.delta1[usize::from(C) * 5 + s - 1];
     assert_eq!([shift(1), shift(2), shift(5)], [2, 5, 2]);
+}
+
+/// The period, and 0 for all that preparing does not work out.
+pub fn periods<T: PrepareCalls>() {
+    for search in bounds::written_out() {
+        let needed = TableLengths::needed(search.pattern.len());
+        let outcome = check_prepare::<T>(&search.pattern, needed);
+        assert_eq!(outcome.answer, answer(search.period));
+    }
+    // Every period of a long pattern: one byte that is not 0, and again a period on.
+    for m in [127, 128] {
+        for period in 1..=m {
+            let pattern: Vec<u8> = (0..m).map(|i| u8::from(i % period == 0)).collect();
+            let outcome = check_prepare::<T>(&pattern, TableLengths::needed(m));
+            assert_eq!(outcome.answer, answer(period as u32));
+        }
+    }
 }
 
 /// Every pattern of up to 6 bytes over three, and of up to 10 over two.

@@ -6,6 +6,7 @@ use ruffarmoire_model::calls;
 use ruffarmoire_model::gen::{Random, SHAPES};
 use ruffarmoire_model::job::{self, Job};
 
+use super::bounds;
 use super::examples::example_jobs;
 use super::files::{largest_job, small_job, spoiled_files};
 use super::harness::{reserved, shown, Buffer};
@@ -20,6 +21,7 @@ macro_rules! report_suite {
     ($calls:ty) => {
         tests_of!(report_suite, $calls:
             worked_examples,
+            periods_and_bounds,
             generated_jobs,
             longer_jobs,
             largest_jobs,
@@ -32,6 +34,12 @@ macro_rules! report_suite {
         );
     };
 }
+
+/// The bytes of the lines before the occurrences: h, C, the ones, p and the bound.
+const NUMBERS: usize = 5 + 9 + 9 + 5 + 9;
+
+/// The bytes of the longest report: every byte of the text is an occurrence and a frame.
+const LONGEST: usize = 163_877;
 
 /// Writes the report of a file into a buffer of this length and holds the outcome to the model.
 fn check_report<T: ReportCalls>(file: &[u8], buffer_length: usize) -> ReportAnswer {
@@ -66,13 +74,24 @@ pub fn worked_examples<T: ReportCalls>() {
         check_job::<T>(&job);
     }
     let listing = b"0105020009\n06\n06\n18\n06\n06\n06\n06\n18\n06\n06\n06\n18\n06\n06\n";
-    let printed = b"0002\n0000000C\n00000012\n0000\n0004\n\
+    let printed = b"0002\n0000000C\n00000012\n0003\n0000000D\n0000\n0004\n\
                     0006\n0006\n0100\n0006\n0006\n0006\n0100\n0006\n0006\n";
     check_file::<T>(listing);
     let mut out = vec![0; printed.len()];
     let answer = T::seek_report(listing, &mut out);
     assert_eq!(answer.bytes as usize, printed.len());
     assert_eq!(out, printed);
+}
+
+pub fn periods_and_bounds<T: ReportCalls>() {
+    for search in bounds::written_out() {
+        let job = search.job();
+        check_job::<T>(&job);
+        let mut out = vec![0; LONGEST];
+        let answer = T::seek_report(&job::write(&job), &mut out);
+        out.truncate(answer.bytes as usize);
+        search.expect_printed(&String::from_utf8(out).expect("digits and line ends"));
+    }
 }
 
 pub fn generated_jobs<T: ReportCalls>() {
@@ -88,7 +107,7 @@ pub fn longer_jobs<T: ReportCalls>() {
     for round in 0..60 {
         let (m, n) = (random.between(1, 128), random.between(0, 1_000));
         let job = SHAPES[round % SHAPES.len()].job(&mut random, m, n);
-        check_report::<T>(&job::write(&job), 23 + 5 * n + 5 * n);
+        check_report::<T>(&job::write(&job), NUMBERS + 5 * n + 5 * n);
     }
 }
 
@@ -97,8 +116,7 @@ pub fn largest_jobs<T: ReportCalls>() {
     for shape in SHAPES {
         for m in [1, 128] {
             let file = job::write(&shape.job(&mut random, m, 16_384));
-            // The longest report: every byte of the text is an occurrence and a frame.
-            check_report::<T>(&file, 23 + 5 * 16_384 + 5 * 16_384);
+            check_report::<T>(&file, LONGEST);
         }
     }
     check_job::<T>(&largest_job());
@@ -108,6 +126,8 @@ pub fn largest_jobs<T: ReportCalls>() {
         text: vec![0xFF; 16_384],
     };
     check_job::<T>(&all_found);
+    let answer = check_report::<T>(&job::write(&all_found), LONGEST);
+    assert_eq!(answer.bytes as usize, LONGEST);
 }
 
 pub fn every_buffer_length<T: ReportCalls>() {

@@ -7,14 +7,17 @@
 use std::collections::BTreeSet;
 use std::fmt::{self, Debug, Display, Formatter};
 
+use ruffarmoire_model::answers::Answer;
 use ruffarmoire_model::calls::{Outcome, TableLengths};
 use ruffarmoire_model::gen::{Random, Shape};
 
+use super::bounds;
 use super::examples::example_jobs;
 use super::harness::{expect_front, reserved, shown, Buffer};
 use super::lengths::BufferLengths;
 use super::searches::{self, Pair};
 use super::table_buffers::{entries, longer, LentTables, TableBuffers};
+use super::words::{period, words};
 
 /// A call that searches.
 pub trait SearchingCall {
@@ -33,7 +36,7 @@ pub trait SearchingCall {
     fn model(input: Input, lengths: Lengths) -> (Self::Answer, Outcome);
 }
 
-/// The tests of one call that searches.
+/// The tests of every call that searches.
 macro_rules! searching_tests {
     ($call:ty) => {
         tests_of!(searching, $call:
@@ -49,6 +52,16 @@ macro_rules! searching_tests {
             order_of_refusals,
             buffers_left_by_another_call,
             lengths_beyond_32_bits,
+        );
+    };
+}
+
+/// The tests of a call that answers the comparisons, the period and the bound.
+macro_rules! bound_tests {
+    ($call:ty) => {
+        tests_of!(searching, $call:
+            periods_and_bounds,
+            comparisons_within_the_bound,
         );
     };
 }
@@ -416,5 +429,52 @@ pub fn every_hold_offset<T: SearchingCall>() {
             let input = Input::new(hold, &pattern, &text);
             assert_eq!(check::<T>(input, input.needed::<T>()).answer.status, 5);
         }
+    }
+}
+
+pub fn periods_and_bounds<T: SearchingCall<Answer = Answer>>() {
+    for search in bounds::written_out() {
+        let last = search.pattern.len() as u32 - 1;
+        let input = Input::new(last, &search.pattern, &search.text);
+        let answer = check_exact::<T>(input).answer;
+        assert_eq!(
+            (answer.period, answer.comparisons, answer.bound),
+            (search.period, search.comparisons, search.bound),
+            "{input}"
+        );
+    }
+}
+
+/// The answer of a call within the limits. Its comparisons are at most its bound, which is 0 just where
+/// the text is shorter than the pattern.
+fn bounded<T: SearchingCall<Answer = Answer>>(input: Input, buffers: &mut Buffers) -> Answer {
+    let answer = T::call(input, buffers.lent());
+    assert_eq!(answer.status, 0, "{input}");
+    assert_eq!(answer.period, period(input.pattern), "{input}");
+    assert!(answer.comparisons <= answer.bound, "{answer:?}, {input}");
+    let is_shorter = input.text.len() < input.pattern.len();
+    assert_eq!(answer.bound == 0, is_shorter, "{answer:?}, {input}");
+    answer
+}
+
+/// Every pattern of up to 6 bytes with every text of up to 11, over two bytes; and the generated
+/// ones. The buffers go from call to call.
+pub fn comparisons_within_the_bound<T: SearchingCall<Answer = Answer>>() {
+    const TWO: [u8; 2] = [0x06, 0x18];
+    let [mut buffers, _] = Buffers::fillings(128, 16_384, Lengths::needed::<T>(128, 16_384));
+    // How many of the short ones have comparisons and meet their bound, by the pattern's length.
+    let mut met = [0; 6];
+    for pattern in words(&TWO, 1..7) {
+        for text in words(&TWO, 0..12) {
+            let answer = bounded::<T>(Input::new(0, &pattern, &text), &mut buffers);
+            if answer.bound > 0 && answer.comparisons == answer.bound {
+                met[pattern.len() - 1] += 1;
+            }
+        }
+    }
+    assert_eq!(met, [4, 44, 18, 58, 110, 256]);
+    for job in searches::jobs() {
+        let input = Input::new(job.hold as u32, &job.pattern, &job.text);
+        bounded::<T>(input, &mut buffers);
     }
 }

@@ -1,4 +1,4 @@
-//! Words: all short ones, and long ones that repeat themselves on many scales.
+//! Words: all short ones, long ones that repeat themselves on many scales, and the period of a word.
 
 use std::ops::Range;
 
@@ -31,6 +31,14 @@ pub fn structured_words(length: usize) -> Vec<Vec<u8>> {
     let runs = (1..).flat_map(|run| (0..=run).map(move |position| u8::from(position == run)));
     made.push(runs.take(length).collect());
     made
+}
+
+/// The period of a word: the least shift, of 1 or more, after which it agrees with itself wherever the
+/// two overlap.
+pub fn period(word: &[u8]) -> u32 {
+    let overlap_agrees = |shift: &usize| word[*shift..] == word[..word.len() - shift];
+    let least = (1..=word.len()).find(overlap_agrees);
+    least.expect("a shift by the whole length leaves no overlap") as u32
 }
 
 /// The word that a rule, which turns each letter into some, grows from one letter.

@@ -6,7 +6,7 @@ use std::ffi::c_void;
 use ruffarmoire_model::answers::{Answer, Refusal};
 use ruffarmoire_model::{MAX_PATTERN, MAX_TEXT};
 
-use super::tables::{are_too_short, write_tables};
+use super::tables::{are_too_short, period, write_tables};
 
 /// Searches a text for a pattern by the steps.
 pub fn search(
@@ -50,7 +50,10 @@ pub(super) unsafe fn run(
 ) -> Answer {
     let (m, n) = (pattern.len(), text.len());
     if n < m {
-        return Answer::default();
+        return Answer {
+            period: period(m, delta2),
+            ..Answer::default()
+        };
     }
     let last = *pattern.get_unchecked(m - 1);
     let end = n - m;
@@ -88,9 +91,14 @@ pub(super) unsafe fn run(
             break;
         }
     }
+    let occurrences = occurrences as u32;
+    let period = period(m, delta2);
+    let beyond_two_periods = (m as u32).saturating_sub(2 * period);
     Answer {
-        occurrences: occurrences as u32,
+        occurrences,
         comparisons,
+        period,
+        bound: (2 * n - m) as u32 + occurrences * beyond_two_periods,
         ..Answer::default()
     }
 }

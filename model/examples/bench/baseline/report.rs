@@ -6,6 +6,9 @@ use ruffarmoire_model::{MAX_PATTERN, MAX_TEXT};
 use super::converter::convert;
 use super::job::{read_job, DIGIT_PAIRS};
 
+/// The bytes of the lines before the occurrences: h, C, the ones, p and the bound.
+pub const NUMBERS: usize = 5 + 9 + 9 + 5 + 9;
+
 /// Writes what SEEK prints for a file.
 pub fn seek_report(file: &[u8], out: &mut [u8]) -> ReportAnswer {
     let mut pattern = [0; MAX_PATTERN];
@@ -34,12 +37,14 @@ pub fn seek_report(file: &[u8], out: &mut [u8]) -> ReportAnswer {
         &mut frames,
     );
     let occurrences = &found[..answer.occurrences as usize];
-    let length = 23 + 5 * (occurrences.len() + n);
+    let length = NUMBERS + 5 * (occurrences.len() + n);
     write(out, length, |lines| {
-        let (numbers, lines) = lines.split_at_mut(23);
+        let (numbers, lines) = lines.split_at_mut(NUMBERS);
         write_four_digits(answer.occurrences as u16, &mut numbers[..5]);
         write_eight_digits(answer.comparisons, &mut numbers[5..14]);
-        write_eight_digits(answer.ones, &mut numbers[14..]);
+        write_eight_digits(answer.ones, &mut numbers[14..23]);
+        write_four_digits(answer.period as u16, &mut numbers[23..28]);
+        write_eight_digits(answer.bound, &mut numbers[28..]);
         let (occurrence_lines, frame_lines) = lines.split_at_mut(5 * occurrences.len());
         write_lines(occurrences, occurrence_lines);
         write_lines(&frames[..n], frame_lines);

@@ -41,11 +41,15 @@ fn prepare_with(
         return Refusal::ShortBuffer.into();
     }
     // SAFETY: the pattern's length and those of the buffers were just checked.
-    unsafe {
+    let period = unsafe {
         write_order_and_delta2(pattern, order, delta2);
         write_delta1(pattern, delta1);
+        period(m, delta2)
+    };
+    Answer {
+        period,
+        ..Answer::default()
     }
-    Answer::default()
 }
 
 /// Whether a buffer has fewer entries than the tables of a pattern of m bytes, at most 128, need.
@@ -66,6 +70,15 @@ pub(super) unsafe fn write_tables(
 ) {
     write_order_and_delta2(pattern, order, delta2);
     write_delta1(pattern, delta1);
+}
+
+/// The period of a pattern of m bytes: its last entry of Δ2, the shift after an occurrence.
+///
+/// # Safety
+///
+/// The table is that of the pattern.
+pub(super) unsafe fn period(m: usize, delta2: &[u16]) -> u32 {
+    u32::from(at(delta2, m))
 }
 
 /// Entry `index`, unchecked.

@@ -1,0 +1,164 @@
+//! Searches whose period, comparisons and bound are written out.
+
+use ruffarmoire_model::job::Job;
+
+/// A search, and what it answers beside its occurrences.
+pub struct Bounded {
+    pub pattern: Vec<u8>,
+    pub text: Vec<u8>,
+    pub period: u32,
+    pub comparisons: u32,
+    pub bound: u32,
+}
+
+impl Bounded {
+    /// The job of the search, with the last hold offset.
+    pub fn job(&self) -> Job {
+        Job {
+            pattern: self.pattern.clone(),
+            hold: self.pattern.len() - 1,
+            text: self.text.clone(),
+        }
+    }
+
+    /// Sees that what is printed has the comparisons, the period and the bound on the lines due for
+    /// them.
+    pub fn expect_printed(&self, printed: &str) {
+        let lines: Vec<&str> = printed.lines().take(5).collect();
+        let expected = [
+            format!("{:08X}", self.comparisons),
+            format!("{:04X}", self.period),
+            format!("{:08X}", self.bound),
+        ];
+        assert_eq!([lines[1], lines[3], lines[4]], expected);
+    }
+}
+
+/// Pattern and text by the letters of document 01's examples, and then p, C and the bound.
+type Short = (&'static str, &'static str, u32, u32, u32);
+
+/// The bound is 0 for a text that is shorter than the pattern, and else 2 n - m and what each
+/// occurrence adds.
+const SHORT: [Short; 53] = [
+    // m is 1.
+    ("a", "", 1, 0, 0),
+    ("a", "a", 1, 1, 1),
+    ("a", "c", 1, 1, 1),
+    ("a", "aca", 1, 3, 5),
+    ("a", "cccc", 1, 4, 7),
+    // p is m.
+    ("ab", "", 2, 0, 0),
+    ("ab", "a", 2, 0, 0),
+    ("ab", "ab", 2, 2, 2),
+    ("ab", "bb", 2, 2, 2),
+    ("ab", "aaab", 2, 4, 6),
+    ("abc", "ab", 3, 0, 0),
+    ("abc", "abc", 3, 3, 3),
+    ("abc", "abcabc", 3, 6, 9),
+    ("cbaaa", "cbaa", 5, 0, 0),
+    ("cbaaa", "cbaaa", 5, 5, 5),
+    ("cbaaa", "cccbaaa", 5, 9, 9),
+    // p is below m, and m below 2 p.
+    ("aba", "", 2, 0, 0),
+    ("aba", "ab", 2, 0, 0),
+    ("aba", "aba", 2, 3, 3),
+    ("aba", "ababa", 2, 6, 7),
+    ("aaca", "aacaaaca", 3, 9, 12),
+    ("aacaa", "", 3, 0, 0),
+    ("aacaa", "aaca", 3, 0, 0),
+    ("aacaa", "aacaa", 3, 5, 5),
+    ("aacaa", "ccccc", 3, 1, 5),
+    ("aacaa", "aacaaacaa", 3, 12, 13),
+    // m is 2 p.
+    ("aa", "", 1, 0, 0),
+    ("aa", "a", 1, 0, 0),
+    ("aa", "aa", 1, 2, 2),
+    ("aa", "aaaa", 1, 6, 6),
+    ("abab", "aba", 2, 0, 0),
+    ("abab", "abab", 2, 4, 4),
+    ("abab", "bbbb", 2, 2, 4),
+    ("abab", "ababab", 2, 8, 8),
+    ("aacaac", "aacaacaac", 3, 12, 12),
+    // m is above 2 p: each occurrence adds m - 2 p. Texts have none of them, one and more.
+    ("aaa", "", 1, 0, 0),
+    ("aaa", "aa", 1, 0, 0),
+    ("aaa", "aca", 1, 3, 3),
+    ("aaa", "aaa", 1, 3, 4),
+    ("aaa", "aacaaa", 1, 4, 10),
+    ("aaa", "aaaaaa", 1, 12, 13),
+    ("aaaa", "aaa", 1, 0, 0),
+    ("aaaa", "aaaaaa", 1, 12, 14),
+    ("ababa", "abab", 2, 0, 0),
+    ("ababa", "babab", 2, 1, 5),
+    ("ababa", "ababa", 2, 5, 6),
+    ("ababa", "ababaaa", 2, 10, 10),
+    ("ababa", "abababa", 2, 10, 11),
+    ("ababa", "ababababaaa", 2, 20, 20),
+    ("aacaacaa", "aacaaca", 3, 0, 0),
+    ("aacaacaa", "aacaacaaaaa", 3, 16, 16),
+    ("aacaacaa", "aacaacaacaa", 3, 16, 18),
+    ("aacaacaacaa", "aacaacaacaaacaacaacaa", 3, 32, 41),
+];
+
+/// The letters that a pattern has again and again and its length; the same of a text, and how it ends;
+/// and then p, C and the bound.
+type Long = (
+    (&'static str, usize),
+    (&'static str, usize, &'static str),
+    u32,
+    u32,
+    u32,
+);
+
+const LONG: [Long; 10] = [
+    (("a", 128), ("a", 0, ""), 1, 0, 0),
+    (("a", 128), ("a", 127, ""), 1, 0, 0),
+    (("a", 128), ("a", 128, ""), 1, 128, 254),
+    (("a", 1), ("a", 16_384, ""), 1, 16_384, 32_767),
+    (("a", 2), ("a", 16_384, ""), 1, 32_766, 32_766),
+    (("a", 128), ("c", 16_384, ""), 1, 128, 32_640),
+    (("a", 128), ("a", 16_384, ""), 1, 2_080_896, 2_081_022),
+    (("ca", 127), ("ca", 16_384, ""), 2, 1_032_383, 1_032_508),
+    (("ca", 128), ("ca", 16_384, "aa"), 2, 1_040_512, 1_040_512),
+    (("aac", 128), ("aac", 16_384, ""), 3, 693_632, 693_758),
+];
+
+/// All searches that are written out.
+pub fn written_out() -> impl Iterator<Item = Bounded> {
+    let short = SHORT.map(|(pattern, text, period, comparisons, bound)| Bounded {
+        pattern: bytes(pattern),
+        text: bytes(text),
+        period,
+        comparisons,
+        bound,
+    });
+    let long = LONG.map(|(pattern, text, period, comparisons, bound)| {
+        let ((root, m), (text_root, n, end)) = (pattern, text);
+        let mut text = repeated(text_root, n - end.len());
+        text.extend(bytes(end));
+        Bounded {
+            pattern: repeated(root, m),
+            text,
+            period,
+            comparisons,
+            bound,
+        }
+    });
+    short.into_iter().chain(long)
+}
+
+/// The bytes of some letters.
+fn bytes(letters: &str) -> Vec<u8> {
+    let byte = |letter| match letter {
+        'a' => 0x06,
+        'b' => 0x01,
+        'c' => 0x18,
+        other => panic!("{other} is no letter of the examples"),
+    };
+    letters.chars().map(byte).collect()
+}
+
+/// The bytes of some letters again and again.
+fn repeated(letters: &str, length: usize) -> Vec<u8> {
+    bytes(letters).into_iter().cycle().take(length).collect()
+}
