@@ -155,7 +155,7 @@ impl From<Result<Outcome, Refusal>> for Outcome {
     }
 }
 
-/// Prepares a pattern: works its tables out.
+/// Prepares a pattern: works its tables and its period out.
 pub fn prepare(pattern: &[u8], lengths: TableLengths) -> Outcome {
     try_prepare(pattern, lengths).into()
 }

@@ -1,8 +1,11 @@
 //! The model against itself: what the documents say of the definitions must hold of them.
 
+mod common;
+
 use std::collections::BTreeMap;
 
-use ruffarmoire_model::answers::Refusal;
+use common::bounds;
+use ruffarmoire_model::answers::{Answer, Refusal};
 use ruffarmoire_model::calls::{self, TableLengths};
 use ruffarmoire_model::convert;
 use ruffarmoire_model::gen::{Random, Shape, SHAPES};
@@ -100,7 +103,6 @@ fn word(number: usize, base: usize, length: usize) -> Vec<u8> {
 
 #[test]
 fn all_short_texts_over_two_bytes() {
-    // How many searches have comparisons and meet their bound, by the pattern's length.
     let mut met = [0; 6];
     for m in 1..=6 {
         for pattern_number in 0..1 << m {
@@ -115,7 +117,7 @@ fn all_short_texts_over_two_bytes() {
             }
         }
     }
-    assert_eq!(met, [4, 44, 18, 58, 110, 256]);
+    assert_eq!(met, bounds::MET);
 }
 
 #[test]
@@ -290,18 +292,13 @@ fn calls_agree_with_seek() {
         let searched = calls::search(&job.pattern, &job.text, lengths, n);
         let prepared = calls::prepare(&job.pattern, lengths);
         let counted = calls::count_ones(&job.text);
-        assert_eq!(converted.answer.status, 0);
-        assert_eq!(converted.answer.occurrences, searched.answer.occurrences);
-        assert_eq!(converted.answer.comparisons, searched.answer.comparisons);
-        assert_eq!(converted.answer.ones, counted.ones);
-        assert_eq!(searched.answer.ones, 0);
-        assert_eq!(converted.answer.period, searched.answer.period);
-        assert_eq!(converted.answer.period, prepared.answer.period);
-        assert_eq!(converted.answer.bound, searched.answer.bound);
-        assert_eq!(
-            [prepared.answer.bound, counted.bound, counted.period],
-            [0; 3]
-        );
+        let answer = converted.answer;
+        let (ones, period) = (answer.ones, answer.period);
+        let none = Answer::default();
+        assert_eq!(answer.status, 0);
+        assert_eq!(searched.answer, Answer { ones: 0, ..answer });
+        assert_eq!(prepared.answer, Answer { period, ..none });
+        assert_eq!(counted, Answer { ones, ..none });
         assert_eq!(converted.occurrences, searched.occurrences);
         assert_eq!(
             (&prepared.order, &prepared.delta1, &prepared.delta2),
@@ -316,10 +313,8 @@ fn calls_agree_with_seek() {
         let h = converted.occurrences.len();
         assert_eq!(lines.len(), 5 + h + n);
         assert_eq!(lines[0], h);
-        assert_eq!(lines[1], converted.answer.comparisons as usize);
-        assert_eq!(lines[2], converted.answer.ones as usize);
-        assert_eq!(lines[3], converted.answer.period as usize);
-        assert_eq!(lines[4], converted.answer.bound as usize);
+        let numbers = [answer.comparisons, ones, period, answer.bound];
+        assert_eq!(lines[1..5], numbers.map(|number| number as usize));
         assert_eq!(lines[5..5 + h], converted.occurrences);
         let frames: Vec<usize> = converted.frames.iter().map(|&f| f.into()).collect();
         assert_eq!(lines[5 + h..], frames);

@@ -7,7 +7,9 @@ use std::mem::offset_of;
 
 use common::bounds;
 use common::lengths::BufferLengths;
-use ruffarmoire_model::answers::{Answer, PriceAnswer, ReadAnswer};
+use ruffarmoire_model::answers::{
+    Answer, PriceAnswer, ReadAnswer, ReportAnswer, TurnAnswer, WriteAnswer,
+};
 use ruffarmoire_model::calls::{self, TableLengths};
 use ruffarmoire_model::job::{self, Job};
 use ruffarmoire_model::steps::{bound, search};
@@ -110,8 +112,8 @@ fn periods_and_bounds() {
         assert_eq!((prepared.period, prepared.bound), (search.period, 0));
         let searched = calls::search(pattern, text, lengths, n).answer;
         assert_eq!(
-            (searched.period, searched.comparisons, searched.bound),
-            (search.period, search.comparisons, search.bound)
+            (searched.period, searched.bound),
+            (search.period, search.bound)
         );
         let converted = calls::convert(0, pattern, text, lengths, n, n).answer;
         let ones = convert::ones(text);
@@ -212,7 +214,13 @@ fn layout_of_answers() {
     ];
     assert_eq!(offsets, [0, 4, 8, 12, 16, 20]);
     assert_eq!(size_of::<Answer>(), 24);
-    assert_eq!(offset_of!(PriceAnswer, pence), 24);
+    let behind = [
+        offset_of!(WriteAnswer, bytes),
+        offset_of!(ReportAnswer, bytes),
+        offset_of!(TurnAnswer, q),
+        offset_of!(PriceAnswer, pence),
+    ];
+    assert_eq!(behind, [24; 4]);
     let read = [
         offset_of!(ReadAnswer, m),
         offset_of!(ReadAnswer, q),

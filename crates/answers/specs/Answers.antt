@@ -1,9 +1,9 @@
--- The answers of the calls (document 01, "Turned away, by who can cause it"): what a call does not work out is 0 in its answer.
--- These are definitions.
+-- The answers of the calls (document 01, "Turned away, by who can cause it"; document 02, "Write out the period and the bound"): what a call does not
+-- work out is 0 in its answer. These are definitions.
 use Prim.Native.Nat.{ℕ, zero, suc}
 use Rattle.answers.specs.declared.Answer.{Answer}
 
--- an answer with none of finds, looks, holes, p and the bound: the status, and zeros
+-- an answer with none of finds, looks, holes, p and the bound: its status, and zeros
 abbrev pub status-only : (status : ℕ) → Answer
 status-only s = record { status = s; occurrences = 0; comparisons = 0; ones = 0; period = 0; bound = 0 }
 

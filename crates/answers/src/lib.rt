@@ -4,7 +4,7 @@ ghost use mathlib.Core.List.{[], _∷_};
 ghost use Rattle.answers.specs.Answers.{status-only, prepared, searched, converted, counted};
 ghost use Rattle.answers.specs.Refusals.{first-of, text-refusal, rule-refusals, job-refusals};
 
-// Document 01's answer. What a call does not work out is 0 in it, and a refused call answers zeros beside its status.
+// Document 01's answer, with document 02's period and bound. What a call does not work out is 0 in it, and a refused call answers zeros beside its status.
 #[repr(C)]
 pub struct Answer {
     // the number: 0 for done, or that of the refusal

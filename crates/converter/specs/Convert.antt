@@ -17,7 +17,7 @@ use Rattle.ones.specs.Ones.{ones-of}
 unfoldable pub convert-status : (m q n : ℕ) → TableLengths → (found-len frames-len : ℕ) → ℕ
 convert-status m q n l f g = first-of (job-refusals m q n ++ (table-refusal m l ∷ buffer-refusal f n ∷ buffer-refusal g n ∷ []))
 
--- converting works out h, C and the holes
+-- converting works out what its search does, h, C, p and the bound, and the holes
 abbrev pub convert-done : (w t : List ℕ) → Answer
 convert-done w t = converted (search-done w t) (ones-of t)
 

@@ -72,7 +72,7 @@ unfoldable pub frames-held : (n : ℕ) → Call → List ℕ
 frames-held n c = holds-from 0 (take n (c .left .frames))
 
 -- what a search answers and leaves: the occurrences by meaning, and their number h; the number of comparisons (looks) that the steps make; the
--- pattern's period p; the bound, which that number keeps; and after a conversion just its holds are holds among its n frames
+-- pattern's period p; the bound, which the count answered keeps; and after a conversion just its holds are holds among its n frames
 pub record Exact (q : ℕ) (w t : List ℕ) (c : Call) : Type 0 where
   pub occurrences-found : found-by c ≡ occurrences w t
   pub occurrences-counted : c .answer .occurrences ≡ length (occurrences w t)

@@ -46,8 +46,8 @@ pub fn digit_of(value: u8) -> u8
     }
 }
 
-// The two digits of each byte, those of byte b at 2 b and 2 b + 1. It is public for the crates that write many lines, which work it out once
-// and lend it for each line.
+// The two digits of each byte, those of byte b at 2 b and 2 b + 1. It is public for the crate that writes reports, which works it out once and
+// lends it for each line.
 pub fn digit_pairs() -> [u8; 512]
     ensures { λ r. ⌜ Digit-pairs r ⌝ }
 {

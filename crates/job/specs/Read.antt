@@ -13,7 +13,7 @@ use Rattle.job.specs.declared.ReadAnswer.{ReadAnswer}
 unfoldable pub read-status : (file : List ℕ) → (pattern-len text-len : ℕ) → ℕ
 read-status bs p t = first-of (file-refusals bs ++ (buffer-refusal p (m-in bs) ∷ buffer-refusal t (n-in bs) ∷ []))
 
--- reading works out none of finds, looks and holes; it also answers m, q and n
+-- reading works out none of what every answer has beside its status; it also answers m, q and n
 unfoldable pub read-answer : (status : ℕ) → (file : List ℕ) → ReadAnswer
 read-answer s bs =
     record { answer = status-only s; m = if-done s (m-in bs) 0; q = if-done s (q-in bs) 0; n = if-done s (n-in bs) 0 }

@@ -13,7 +13,7 @@ use Rattle.job.specs.declared.WriteAnswer.{WriteAnswer}
 unfoldable pub write-status : (m q n : ℕ) → (file-len : ℕ) → ℕ
 write-status m q n f = first-of (job-refusals m q n ++ (buffer-refusal f (file-length m n) ∷ []))
 
--- writing works out none of finds, looks and holes; it also answers the file's length
+-- writing works out none of what every answer has beside its status; it also answers the file's length
 unfoldable pub write-answer : (status : ℕ) → (m n : ℕ) → WriteAnswer
 write-answer s m n = record { answer = status-only s; bytes = if-done s (file-length m n) 0 }
 

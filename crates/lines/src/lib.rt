@@ -57,7 +57,7 @@ fn write_pair(pairs: &[u8; 512], byte: u8, at: usize, out: &mut [u8]) -> usize
 
 // Writes a number in four digits, as `write_line` does, by the table of digit pairs. It is public for the crate that writes reports, which have
 // many such lines.
-pub fn write_line_by_pairs(pairs: &[u8; 512], number: u16, at: usize, out: &mut [u8]) -> usize
+pub fn write_four_digit_line(pairs: &[u8; 512], number: u16, at: usize, out: &mut [u8]) -> usize
     requires { ⌜ Digit-pairs (now pairs) ⌝ }
     requires { ⌜ at + 5 ≤ length (now out) ⌝ }
     ensures { λ r. ⌜ r ≡ at + 5 ⌝ }

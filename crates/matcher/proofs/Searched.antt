@@ -58,9 +58,9 @@ module _ {w t : List ℕ} {lent : Tables} {found : List ℕ} where
   pub bound-ready :
       {found' : List ℕ} {counts : Counts} {p : ℕ} → Search-fit w t lent found → p ≡ period w → Run-outcome w t found found' counts →
       (length w ≤ 128) × ((length t ≤ 65535) × ((counts .occurrences ≤ length t) × (p ≤ length w)))
-  bound-ready fit value ran =
+  bound-ready fit period-is ran =
       let some = fit .tables .taken .some in
-      omega (arith, fit, value, ran .occurrences-counted, occurrences-few w t some, period-facts w some .within)
+      omega (arith, fit, period-is, ran .occurrences-counted, occurrences-few w t some, period-facts w some .within)
 
   module _ {left : Tables} (written : Tables-written w lent left) where
     -- the steps can be run by the tables that are written
@@ -84,9 +84,9 @@ module _ {w t : List ℕ} {lent : Tables} {found : List ℕ} where
         most ≡ bound (length w) (length t) (counts .occurrences) p →
         Search-outcome-of 0 w t lent left found found' (searched (counts .occurrences) (counts .comparisons) p most)
     unfolding if-done answered found-left
-    done value ran bounded =
+    done period-is ran bound-is =
         record {
-          answer = rw (bounded, value, ran .occurrences-counted, ran .comparisons-counted, span-length);
+          answer = rw (bound-is, period-is, ran .occurrences-counted, ran .comparisons-counted, span-length);
           tables = tables-done written;
           occurrences-left = ran .occurrences-left;
         }

@@ -1,4 +1,4 @@
-// Colussi's search as one call: the tables worked out anew, then the steps.
+// Colussi's search as one call: the tables worked out anew, then the steps, then the bound.
 use answers::Answer;
 use tables::TableLengths;
 ghost use mathlib.Core.Path.{_≡_};

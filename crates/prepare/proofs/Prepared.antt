@@ -34,4 +34,4 @@ module _ {w : List ℕ} {lent : Tables} where
 
   pub done : {left : Tables} {p : ℕ} → (p ≡ period w) × Tables-written w lent left → Prepare-outcome-of 0 w lent left (prepared p)
   unfolding answered if-done
-  done (value, written) = record { answer = ap prepared value; tables = tables-done written }
+  done (period-is, written) = record { answer = ap prepared period-is; tables = tables-done written }

@@ -20,7 +20,7 @@ price-status m q n l f = first-of (job-refusals m q n ++ (table-refusal m l ∷ 
 abbrev pub job-cost : (q : ℕ) → (w t : List ℕ) → ℕ
 job-cost q w t = cost t (frames q w t)
 
--- pricing answers none of finds, looks and holes; it also answers the pence, 0 where it is refused
+-- pricing answers none of what every answer has beside its status; it also answers the pence, 0 where it is refused
 unfoldable pub price-answer : (status q : ℕ) → (w t : List ℕ) → PriceAnswer
 price-answer s q w t = record { answer = status-only s; pence = if-done s (job-cost q w t) 0 }
 

@@ -19,7 +19,7 @@ pub record Answer-line : Type 0 where
 abbrev pub in-digits : (digit-count : ℕ) → (number : Answer → ℕ) → Answer-line
 in-digits n v = record { digit-count = n; number = v }
 
--- the numbers of a report: h in four digits, C in eight, the holes in eight, p in four, the bound in eight
+-- the numbers of a report: h in four digits, C in eight, the holes in eight, and by document 02 p in four, the bound in eight
 abbrev pub numbers : List Answer-line
 numbers =
     in-digits 4 (λ a. a .occurrences)
@@ -53,7 +53,7 @@ refused-report s = digits 2 0xFF ++ line 2 s
 unfoldable pub report-status : (report-len out-len : ℕ) → ℕ
 report-status l o = first-of (buffer-refusal o l ∷ [])
 
--- writing a report works out none of finds, looks and holes; it also answers the report's length
+-- writing a report works out none of what every answer has beside its status; it also answers the report's length
 unfoldable pub report-answer : (status report-len : ℕ) → ReportAnswer
 report-answer s l = record { answer = status-only s; bytes = if-done s l 0 }
 

@@ -49,7 +49,7 @@ fn write_lines(pairs: &[u8; 512], numbers: &[u16], at: usize, out: &mut [u8]) ->
 {
     let mut next = at;
     for i in 0..numbers.len() {
-        next = lines::write_line_by_pairs(pairs, numbers[i], next, out);
+        next = lines::write_four_digit_line(pairs, numbers[i], next, out);
     }
     next
 }

@@ -24,8 +24,8 @@ restore-status q w gs x =
 unfoldable pub restored-left : (status q : ℕ) → (w frames text : List ℕ) → List ℕ
 restored-left s q w gs text = if-done s (in-front (restored q w gs) text) text
 
--- what `restore` answers and leaves, of status s: none of finds, looks and holes is worked out; text is the caller's buffer (lent buffer) for
--- the text (chain), text' the same at exit
+-- what `restore` answers and leaves, of status s: none of what every answer has beside its status is worked out; text is the caller's buffer (lent
+-- buffer) for the text (chain), text' the same at exit
 pub record Restore-outcome-of (s q : ℕ) (w gs text text' : List ℕ) (r : Answer) : Type 0 where
   pub answer : r ≡ status-only s
   pub text-left : text' ≡ restored-left s q w gs text

@@ -40,7 +40,7 @@ pub extern "C" fn write_job(
     writer::write_job(hold_offset, pattern, text, file)
 }
 
-// Prepares a pattern (motif): works its order, Δ2 and Δ1 out into the caller's buffers.
+// Prepares a pattern (motif): works its order, Δ2 and Δ1 out into the caller's buffers, and answers its period.
 #[no_mangle]
 pub extern "C" fn prepare(
     pattern: &[u8],
@@ -55,7 +55,8 @@ pub extern "C" fn prepare(
     prepare::prepare(pattern, order, delta2, delta1)
 }
 
-// Lists every occurrence (find) of the pattern (motif) in the text (chain), and counts the comparisons (looks).
+// Lists every occurrence (find) of the pattern (motif) in the text (chain), counts the comparisons (looks), and answers the pattern's period and the bound
+// beside them.
 #[no_mangle]
 pub extern "C" fn search(
     pattern: &[u8],

@@ -1,4 +1,4 @@
-// The steps of a search, run by the pattern's tables. The steps, the occurrences by their meaning and what is promised of them are in specs/.
+// The steps of a search, run by the pattern's tables, and the bound on its comparisons. The steps, the occurrences by their meaning and what is promised of them are in specs/.
 ghost use mathlib.Core.Path.{_≡_};
 ghost use Prim.Native.Nat.{_≤_};
 ghost use Rattle.steps.specs.Bound.{bound};
@@ -85,8 +85,8 @@ pub fn run_steps(
     }
 }
 
-// The most comparisons (looks) that demand 3 allows a search for a pattern (motif) of m bytes and this period in a text (chain) that goes as far as n,
-// with so many occurrences (finds). It is public for the crate that searches.
+// The most comparisons (looks) that demand 3 allows a search for a pattern (motif) of m bytes and this period, in a text (chain) of which n positions are
+// shown, with so many occurrences (finds). It is public for the crate that searches.
 pub fn comparison_bound(m: u32, n: u32, occurrences: u32, period: u32) -> u32
     requires { ⌜ m ≤ 128 ⌝ }
     requires { ⌜ n ≤ 65535 ⌝ }

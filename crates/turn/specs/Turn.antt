@@ -19,7 +19,7 @@ way-refusal way = refuse 8 (ltb 3 way)
 unfoldable pub turn-status : (way m q n : ℕ) → (turned-pattern-len turned-text-len : ℕ) → ℕ
 turn-status way m q n p x = first-of (way-refusal way ∷ job-refusals m q n ++ (buffer-refusal p m ∷ buffer-refusal x n ∷ []))
 
--- turning works out none of finds, looks and holes; it also answers the turned q, 0 where it is refused
+-- turning works out none of what every answer has beside its status; it also answers the turned q, 0 where it is refused
 unfoldable pub turn-answer : (status way m q : ℕ) → TurnAnswer
 turn-answer s way m q = record { answer = status-only s; q = if-done s (turned-index way m q) 0 }
 

@@ -140,7 +140,7 @@ abbrev no-room : TableLengths
 no-room = room 0 0 0
 
 -- an answer by its fields: the number, the finds, the looks, the holes, p and the bound
-abbrev answer : (status h C holes p bound : ℕ) → Answer
+abbrev answer : (status h C ones p bound : ℕ) → Answer
 answer s h C o p most = record { status = s; occurrences = h; comparisons = C; ones = o; period = p; bound = most }
 
 -- an answer with zeros beside its number
@@ -205,7 +205,7 @@ examples =
     ∷ [])
     -- 3. a a c a a: Δ1(c, 1) = 2, Δ1(c, 2) = 5, Δ1(c, 5) = 2
     ∷ row 3 (Δ1-is aacaa c 1 2 ∷ Δ1-is aacaa c 2 5 ∷ Δ1-is aacaa c 5 2 ∷ [])
-    -- 4. The listing above: finds 0 and 4, C 12, and the bound is 13
+    -- 4. The listing above: finds 0 and 4, C 12, and the bound is 13. Document 02: its lines of p and the bound are 0003 and 0000000D
     ∷ row 4
     (job-file-is 2 aacaa listing listing-file
     ∷ seek-prints listing-file listing-printed
@@ -368,7 +368,7 @@ examples =
     ∷ turning-leaves 8 2 (b ∷ a ∷ []) (1 ∷ 2 ∷ 3 ∷ []) (1 ∷ 2 ∷ 3 ∷ [])
     ∷ [])
     -- Document 02, "Back to cards": each hold becomes card w(q) again and each move its card. What is put back converts to the frames handed in.
-    -- Finds, looks and holes are 0, and what is past n in the buffer stays
+    -- The answer has zeros beside its number, and what is past n in the buffer stays
     ∷ row 21
     (frames-are 2 aacaa listing listing-frames
     ∷ restoring-leaves 2 aacaa listing-frames (replicate 10 1) (a ∷ a ∷ c ∷ a ∷ a ∷ a ∷ c ∷ a ∷ a ∷ 1 ∷ []) (zeros-beside 0)
@@ -445,7 +445,7 @@ examples =
     ∷ rebate-is 4097 40 2
     ∷ rebate-is 16384 901120 45056
     ∷ [])
-    -- Tables and finds are left as searching leaves them; the answer has the pence, and 0 for finds, looks and holes; 4, 5, 6, 7. Of the refused ones
+    -- Tables and finds are left as searching leaves them; the answer has the pence, and zeros beside its number; 4, 5, 6, 7. Of the refused ones
     -- the first three meet every later condition too
     ∷ row 26
     (pricing-leaves 0 (c ∷ []) (c ∷ a ∷ c ∷ []) lent-to-one left-by-one (9 ∷ 9 ∷ 9 ∷ 9 ∷ []) (0 ∷ 2 ∷ 9 ∷ 9 ∷ []) (price-answered 0 98)
@@ -476,8 +476,8 @@ examples =
     ∷ word-is (0x80 ∷ []) 0x80
     ∷ ones-are (0x01 ∷ 0x02 ∷ 0x03 ∷ 0x04 ∷ 0x05 ∷ 0x06 ∷ 0x07 ∷ 0x08 ∷ 0x09 ∷ []) 15
     ∷ [])
-    -- Document 02, "Write out the period and the bound": searching and converting work out p and the bound, preparing only p, counting neither. The bound
-    -- is 0 for n below m, where p is given too. A job turned away has zeros there
+    -- Document 02, "Write out the period and the bound": searching and converting work out p and the bound, preparing only p. The bound is 0 for n
+    -- below m, where p is given too. A job turned away has zeros there
     ∷ row 28
     (answers-are (answered 0 (prepare-done cbaaa)) (answer 0 0 0 0 5 0)
     ∷ answers-are (answered 4 (prepare-done [])) (zeros-beside 4)

@@ -45,17 +45,16 @@ pub fn worked_examples<T: MatcherCalls>() {
     check_examples::<Search<T>>();
     const A: u8 = 0x06;
     const C: u8 = 0x18;
-    let expect = |pattern: &[u8], text: &[u8], occurrences: &[usize], numbers: [u32; 3]| {
+    let expect = |pattern: &[u8], text: &[u8], occurrences: &[usize], comparisons: u32| {
         let outcome = check_exact::<Search<T>>(Input::new(0, pattern, text));
         assert_eq!(outcome.occurrences, occurrences);
-        let answer = outcome.answer;
-        assert_eq!([answer.comparisons, answer.period, answer.bound], numbers);
+        assert_eq!(outcome.answer.comparisons, comparisons);
     };
     let listing = [A, A, C, A, A, A, C, A, A];
-    expect(&[A, A, C, A, A], &listing, &[0, 4], [12, 3, 13]);
-    expect(&[A, A, C, A, A], &[], &[], [0, 3, 0]);
-    expect(&[A], &[A], &[0], [1, 1, 1]);
-    expect(&[A; 4], &[A; 6], &[0, 1, 2], [12, 1, 14]);
-    expect(&[A], &[A, C, A], &[0, 2], [3, 1, 5]);
-    expect(&[A, A], &[A], &[], [0, 1, 0]);
+    expect(&[A, A, C, A, A], &listing, &[0, 4], 12);
+    expect(&[A, A, C, A, A], &[], &[], 0);
+    expect(&[A], &[A], &[0], 1);
+    expect(&[A; 4], &[A; 6], &[0, 1, 2], 12);
+    expect(&[A], &[A, C, A], &[0, 2], 3);
+    expect(&[A, A], &[A], &[], 0);
 }

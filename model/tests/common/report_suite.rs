@@ -39,7 +39,7 @@ macro_rules! report_suite {
 const NUMBERS: usize = 5 + 9 + 9 + 5 + 9;
 
 /// The bytes of the longest report: every byte of the text is an occurrence and a frame.
-const LONGEST: usize = 163_877;
+const LONGEST: usize = NUMBERS + 5 * 16_384 + 5 * 16_384;
 
 /// Writes the report of a file into a buffer of this length and holds the outcome to the model.
 fn check_report<T: ReportCalls>(file: &[u8], buffer_length: usize) -> ReportAnswer {

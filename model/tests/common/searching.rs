@@ -438,8 +438,8 @@ pub fn periods_and_bounds<T: SearchingCall<Answer = Answer>>() {
         let input = Input::new(last, &search.pattern, &search.text);
         let answer = check_exact::<T>(input).answer;
         assert_eq!(
-            (answer.period, answer.comparisons, answer.bound),
-            (search.period, search.comparisons, search.bound),
+            (answer.period, answer.bound),
+            (search.period, search.bound),
             "{input}"
         );
     }
@@ -447,7 +447,10 @@ pub fn periods_and_bounds<T: SearchingCall<Answer = Answer>>() {
 
 /// The answer of a call within the limits. Its comparisons are at most its bound, which is 0 just where
 /// the text is shorter than the pattern.
-fn bounded<T: SearchingCall<Answer = Answer>>(input: Input, buffers: &mut Buffers) -> Answer {
+fn answer_within_the_bound<T: SearchingCall<Answer = Answer>>(
+    input: Input,
+    buffers: &mut Buffers,
+) -> Answer {
     let answer = T::call(input, buffers.lent());
     assert_eq!(answer.status, 0, "{input}");
     assert_eq!(answer.period, period(input.pattern), "{input}");
@@ -462,19 +465,18 @@ fn bounded<T: SearchingCall<Answer = Answer>>(input: Input, buffers: &mut Buffer
 pub fn comparisons_within_the_bound<T: SearchingCall<Answer = Answer>>() {
     const TWO: [u8; 2] = [0x06, 0x18];
     let [mut buffers, _] = Buffers::fillings(128, 16_384, Lengths::needed::<T>(128, 16_384));
-    // How many of the short ones have comparisons and meet their bound, by the pattern's length.
     let mut met = [0; 6];
     for pattern in words(&TWO, 1..7) {
         for text in words(&TWO, 0..12) {
-            let answer = bounded::<T>(Input::new(0, &pattern, &text), &mut buffers);
+            let answer = answer_within_the_bound::<T>(Input::new(0, &pattern, &text), &mut buffers);
             if answer.bound > 0 && answer.comparisons == answer.bound {
                 met[pattern.len() - 1] += 1;
             }
         }
     }
-    assert_eq!(met, [4, 44, 18, 58, 110, 256]);
+    assert_eq!(met, bounds::MET);
     for job in searches::jobs() {
         let input = Input::new(job.hold as u32, &job.pattern, &job.text);
-        bounded::<T>(input, &mut buffers);
+        answer_within_the_bound::<T>(input, &mut buffers);
     }
 }

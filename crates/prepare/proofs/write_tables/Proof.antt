@@ -12,20 +12,23 @@ use Rattle.tables.specs.Buffers.{tables, Tables-written}
 abbrev start : tie.After-write-order-and-delta2 → tie.Start
 start c = c .before .before .before .before .before .before
 
-abbrev lowered : tie.After-slice-known5 → tie.After-write-delta1
-lowered c = c .before .before .before
+abbrev delta1-written : tie.After-slice-known5 → tie.After-write-delta1
+delta1-written c = c .before .before .before
 
-abbrev ordered : tie.After-write-delta1 → tie.After-write-order-and-delta2
-ordered c = c .before .before .before .before .before
+abbrev others-written : tie.After-write-delta1 → tie.After-write-order-and-delta2
+others-written c = c .before .before .before .before .before
 
 returns : tie.Need-returns
 returns c =
-    let rows = lowered c in
-    let others = ordered rows in
-    let a = start others .args in
-    let all : Tables-written (a .pattern .now) (tables (a .order .now) (a .delta2 .now) (a .delta1 .now)) (tables _ _ _)
-    = record { order = others .write-order-and-delta2 .ensures .0; delta2 = others .write-order-and-delta2 .ensures .1; delta1 = rows .write-delta1 .ensures } in
-    (period-written (start others .pre .taken) all, all)
+    let last = delta1-written c in
+    let first = others-written last in
+    let a = start first .args in
+    let all : Tables-written (a .pattern .now) (tables (a .order .now) (a .delta2 .now) (a .delta1 .now)) (tables _ _ _) = record {
+      order = first .write-order-and-delta2 .ensures .0;
+      delta2 = first .write-order-and-delta2 .ensures .1;
+      delta1 = last .write-delta1 .ensures;
+    } in
+    (period-written (start first .pre .taken) all, all)
 
 pub write-tables-spec : {M : Type 1} → statement M
 write-tables-spec =
@@ -35,7 +38,7 @@ write-tables-spec =
     (λ c κs. search needs)
     (λ c. search needs)
     (λ c. search needs)
-    (λ c. omega (arith, c .slice-known5 .given (length (start (ordered (lowered c)) .args .pattern .now))))
+    (λ c. omega (arith, c .slice-known5 .given (length (start (others-written (delta1-written c)) .args .pattern .now))))
     (λ c. search needs)
     (λ c. search needs)
     (λ c. search needs)

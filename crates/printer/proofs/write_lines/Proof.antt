@@ -27,6 +27,6 @@ write-lines-spec =
     (λ c. omega arith)
     (λ c. omega arith)
     (λ c. let call = c .before .before in let turn = call .before .before .before .before in
-    one-more 4 _ _ _ (omega arith) (omega arith) (omega arith) (turn .loop .inv) (call .write-line-by-pairs .ensures))
+    one-more 4 _ _ _ (omega arith) (omega arith) (omega arith) (turn .loop .inv) (call .write-four-digit-line .ensures))
     (λ c. c .before .loop .inv .kept)
     (λ c. all-so-far 4 _ _ _ (c .before .loop .i) (omega arith) (c .before .loop .inv)))

@@ -17,9 +17,9 @@ beyond-is c = ⊎-elim (λ w. omega (arith, w)) (λ w. omega (arith, w)) (c .if2
 
 few : (c : tie.Joined2) → c .before .before .args .occurrences * c .if2 .beyond ≤ 65535 * 128
 few c =
-    let listed : c .before .before .args .occurrences ≤ 65535 = omega arith in
+    let occurred : c .before .before .args .occurrences ≤ 65535 = omega arith in
     let beyond : c .if2 .beyond ≤ 128 = omega (arith, beyond-is c) in
-    mul-le-mul listed beyond
+    mul-le-mul occurred beyond
 
 returns : tie.Need-returns
 unfolding bound

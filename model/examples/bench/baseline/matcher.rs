@@ -49,9 +49,10 @@ pub(super) unsafe fn run(
     found: &mut [u16],
 ) -> Answer {
     let (m, n) = (pattern.len(), text.len());
+    let period = period(m, delta2);
     if n < m {
         return Answer {
-            period: period(m, delta2),
+            period,
             ..Answer::default()
         };
     }
@@ -91,16 +92,18 @@ pub(super) unsafe fn run(
             break;
         }
     }
-    let occurrences = occurrences as u32;
-    let period = period(m, delta2);
-    let beyond_two_periods = (m as u32).saturating_sub(2 * period);
     Answer {
-        occurrences,
+        occurrences: occurrences as u32,
         comparisons,
         period,
-        bound: (2 * n - m) as u32 + occurrences * beyond_two_periods,
+        bound: bound(m as u32, n as u32, occurrences as u32, period),
         ..Answer::default()
     }
+}
+
+/// The bound on the comparisons of a search in a text that is no shorter than the pattern.
+fn bound(m: u32, n: u32, occurrences: u32, period: u32) -> u32 {
+    2 * n - m + occurrences * m.saturating_sub(2 * period)
 }
 
 extern "C" {

@@ -1,12 +1,12 @@
--- `lines::write_line_by_pairs` meets its contract: the digits of the number's two bytes are put one after the other, which are the number's,
+-- `lines::write_four_digit_line` meets its contract: the digits of the number's two bytes are put one after the other, which are the number's,
 -- and a store puts the line end after them. Assumes nothing.
 use native.Mathlib.Omega.{arith}
 use borrow.Author.Needs.{needs}
 use lib.ListN.{length-set}
 use Rattle.answers.proofs.Partly.{put, put-more, put-store}
 use Rattle.hex.proofs.Numbers.{length-digits, digits-low, digits-append}
-use Rattle.lines.proofs.write_line_by_pairs.Statement.{statement}
-use Rattle.lines.proofs.write_line_by_pairs.Tie as tie
+use Rattle.lines.proofs.write_four_digit_line.Statement.{statement}
+use Rattle.lines.proofs.write_four_digit_line.Tie as tie
 use Rattle.lines.specs.Lines.{line-end, line}
 
 returns : tie.Need-returns
@@ -22,8 +22,8 @@ returns c =
           (put-store (put-more (omega arith) high low) line-end (omega arith) .buffer),
     )
 
-pub write-line-by-pairs-spec : {M : Type 1} → statement M
-write-line-by-pairs-spec =
+pub write-four-digit-line-spec : {M : Type 1} → statement M
+write-four-digit-line-spec =
     tie.close
     (tie.spec
     (λ c. search needs)
