@@ -20,8 +20,8 @@ use Rattle.lines.specs.Lines.{line, lines}
 use Rattle.job.specs.Job.{first-line, job-file, edition-in, m-in, q-in, n-in, bytes-in, pattern-in, text-in, good-line, good-lines, file-refusals, file-status}
 use Rattle.job.proofs.RoundTrip.{written-read}
 use Rattle.job.specs.Promises.{Written-read}
-use Rattle.job.specs.Read.{read-status}
-use Rattle.job.specs.Write.{write-status}
+use Rattle.job.specs.Read.{read-status, read-answer}
+use Rattle.job.specs.Write.{write-status, write-answer}
 use Rattle.tables.specs.Least.{least-from, all-from}
 use Rattle.tables.proofs.Cases.{le-or-lt}
 use Rattle.tables.specs.Buffers.{tables-left}
@@ -36,7 +36,7 @@ use Rattle.matcher.specs.Search.{search-status, found-left}
 use Rattle.frames.specs.Frames.{with-holds, frames}
 use Rattle.ones.specs.Ones.{ones-of, count-status, count-answer}
 use Rattle.ones.specs.Words.{word-of}
-use Rattle.converter.specs.Convert.{convert-status}
+use Rattle.converter.specs.Convert.{convert-status, frames-left}
 use Rattle.mirror.specs.Mirrored.{reversed-bits, mirrored}
 use Rattle.turn.specs.Turn.{turn-status, turn-answer, turned-left}
 use Rattle.turn.specs.Turned.{turned-by, turned, turned-index}
@@ -45,7 +45,7 @@ use Rattle.conversions.specs.Restored.{restored, converts-again, is-conversion}
 use Rattle.tariff.proofs.Cost.{cost-equal}
 use Rattle.tariff.specs.Tariff.{byte-price, sum-from, total, rebate, cost}
 use Rattle.price.specs.Price.{job-cost, price-status, price-answer}
-use Rattle.printer.specs.Printed.{report-status, refused-report}
+use Rattle.printer.specs.Printed.{report-status, report-answer, refused-report}
 use Rattle.report.specs.Report.{done-report, seek-report}
 use Rattle.worked_examples.specs.Examples.{a, b, bytes, Holds, examples, All, All-hold}
 
@@ -94,6 +94,7 @@ unfolding bytes Holds examples All All-hold
     reversed-bits mirrored turned-by turned turned-index turn-status turn-answer turned-left from-entry in-front
     restored converts-again is-conversion restore-status restored-left
     byte-price sum-from total rebate cost price-status price-answer tables-left stored-Δ1-from stored-Δ1 found-left
+    frames-left read-answer write-answer report-answer
 examples-hold =
     (refl, (refl, (refl, tt)))
     then (refl, (refl, (refl, tt)))
@@ -122,5 +123,6 @@ examples-hold =
     then (job-none 4097 0x00 b 0 refl ∙ cost-equal 4097 0x00 0x00, (cost-equal 4096 0x00 0x00, (cost-equal 4097 0x00 0x00, (cost-equal 4096 0x00 256, (cost-equal 4097 0x00 256, (cost-equal 16384 0xFF 256, (refl, (refl, (refl, (refl, (refl, (refl, tt))))))))))))
     then (record { answer = refl; tables = refl; occurrences-left = refl }, (record { answer = refl; tables = refl; occurrences-left = refl }, (record { answer = refl; tables = refl; occurrences-left = refl }, (record { answer = refl; tables = refl; occurrences-left = refl }, (record { answer = refl; tables = refl; occurrences-left = refl }, (record { answer = refl; tables = refl; occurrences-left = refl }, (record { answer = refl; tables = refl; occurrences-left = refl }, (refl, (refl, (refl, (refl, (refl, (refl, (refl, (refl, (refl, (refl, (refl, (refl, (refl, tt))))))))))))))))))))
     then (refl, (refl, (refl, (refl, tt))))
-    then (refl, (refl, (refl, (refl, (refl, (refl, (refl, (refl, (refl, (refl, (refl, (refl, (refl, tt)))))))))))))
+    then (refl, (refl, (refl, (refl, (refl, (refl, (refl, (refl, (refl, (refl, (refl, (refl, (refl, (refl, (refl, (refl, (refl, (refl, tt))))))))))))))))))
+    then (record { answer = refl; tables = refl }, (record { answer = refl; tables = refl }, (record { answer = refl; tables = refl; occurrences-left = refl }, (record { answer = refl; tables = refl; occurrences-left = refl }, (record { answer = refl; tables = refl; occurrences-left = refl }, (record { answer = refl; tables = refl; occurrences-left = refl; moves-and-holds-left = refl }, (record { answer = refl; tables = refl; occurrences-left = refl; moves-and-holds-left = refl }, (record { answer = refl; pattern-left = refl; text-left = refl }, (record { answer = refl; pattern-left = refl; text-left = refl }, (record { answer = refl; file-left = refl }, (record { answer = refl; file-left = refl }, (record { answer = refl; pattern-left = refl; text-left = refl }, (record { answer = refl; pattern-left = refl; text-left = refl }, (record { answer = refl; out-left = refl }, (record { answer = refl; out-left = refl }, (record { answer = refl; out-left = refl }, tt))))))))))))))))
     then tt

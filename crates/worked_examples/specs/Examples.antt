@@ -10,21 +10,23 @@ use lib.ListN.{length, drop, replicate}
 use Rattle.answers.specs.Answers.{answered}
 use Rattle.answers.specs.declared.Answer.{Answer}
 use Rattle.job.specs.Job.{job-file, file-status}
-use Rattle.job.specs.Read.{read-status}
-use Rattle.job.specs.Write.{write-status}
+use Rattle.job.specs.Read.{read-status, Read-outcome}
+use Rattle.job.specs.Write.{write-status, Write-outcome}
+use Rattle.job.specs.declared.ReadAnswer.{ReadAnswer}
+use Rattle.job.specs.declared.WriteAnswer.{WriteAnswer}
 use Rattle.tables.specs.Buffers.{Tables, tables, needed}
-use Rattle.tables.specs.Prepare.{prepare-status, prepare-done}
+use Rattle.tables.specs.Prepare.{prepare-status, prepare-done, Prepare-outcome}
 use Rattle.tables.specs.Tables.{period, stored-order, Δ1, Δ2}
 use Rattle.tables.specs.declared.TableLengths.{TableLengths}
 use Rattle.steps.specs.Bound.{search-bound}
 use Rattle.steps.specs.Occurrences.{occurrences}
 use Rattle.steps.specs.Steps.{alignments-in, comparisons, listed}
-use Rattle.matcher.specs.Search.{search-status, search-done}
+use Rattle.matcher.specs.Search.{search-status, search-done, Search-outcome}
 use Rattle.ones.specs.Ones.{ones-of, count-status, count-answer}
 use Rattle.ones.specs.Words.{word-of}
 use Rattle.frames.specs.Frames.{frames}
-use Rattle.converter.specs.Convert.{convert-status, convert-done}
-use Rattle.turn.specs.Turn.{turn-status, turn-answer, turned-left}
+use Rattle.converter.specs.Convert.{convert-status, convert-done, Convert-outcome}
+use Rattle.turn.specs.Turn.{turn-status, turn-answer, turned-left, Turn-outcome}
 use Rattle.turn.specs.Turned.{turned}
 use Rattle.turn.specs.declared.TurnAnswer.{TurnAnswer}
 use Rattle.restore.specs.Restore.{restore-status, Restore-outcome}
@@ -32,7 +34,8 @@ use Rattle.tariff.specs.Tariff.{rebate, cost}
 use Rattle.price.specs.Price.{price-status, job-cost, Price-outcome}
 use Rattle.price.specs.declared.PriceAnswer.{PriceAnswer}
 use Rattle.printer.specs.Printed.{report-status}
-use Rattle.report.specs.Report.{seek-report}
+use Rattle.printer.specs.declared.ReportAnswer.{ReportAnswer}
+use Rattle.report.specs.Report.{seek-report, Report-outcome}
 
 -- what a row may claim of a pattern w (motif), a text t (chain) or a job file
 pub data Claim : Type 0 where
@@ -70,6 +73,13 @@ pub data Claim : Type 0 where
   rebate-is : (n total : ℕ) → (pence : ℕ) → Claim
   pricing-gives : (m q n : ℕ) → (lengths : TableLengths) → (found-len : ℕ) → (status : ℕ) → Claim
   pricing-leaves : (q : ℕ) → (w t : List ℕ) → (lent left : Tables) → (found listed : List ℕ) → (given : PriceAnswer) → Claim
+  preparing-leaves : (w : List ℕ) → (lent left : Tables) → (given : Answer) → Claim
+  searching-leaves : (w t : List ℕ) → (lent left : Tables) → (found listed : List ℕ) → (given : Answer) → Claim
+  converting-leaves : (q : ℕ) → (w t : List ℕ) → (lent left : Tables) → (found listed frame framed : List ℕ) → (given : Answer) → Claim
+  reading-leaves : (file : String) → (pattern pattern-read text text-read : List ℕ) → (given : ReadAnswer) → Claim
+  writing-leaves : (q : ℕ) → (w t file written : List ℕ) → (given : WriteAnswer) → Claim
+  turning-both-leaves : (way q : ℕ) → (w t pattern pattern-turned text text-turned : List ℕ) → (given : TurnAnswer) → Claim
+  reporting-leaves : (file : String) → (out printed : List ℕ) → (given : ReportAnswer) → Claim
 
 -- the bytes of what is written in quotes: each character's code
 unfoldable pub bytes : String → List ℕ
@@ -123,6 +133,13 @@ Holds (frames-cost t gs pence) = cost t gs ≡ pence
 Holds (rebate-is n total pence) = rebate n total ≡ pence
 Holds (pricing-gives m q n l found status) = price-status m q n l found ≡ status
 Holds (pricing-leaves q w t lent left found listed given) = Price-outcome q w t lent left found listed given
+Holds (preparing-leaves w lent left given) = Prepare-outcome w lent left given
+Holds (searching-leaves w t lent left found listed given) = Search-outcome w t lent left found listed given
+Holds (converting-leaves q w t lent left found listed frame framed given) = Convert-outcome q w t lent left found listed frame framed given
+Holds (reading-leaves file p p' t t' given) = Read-outcome (bytes file) p p' t t' given
+Holds (writing-leaves q w t file file' given) = Write-outcome q w t file file' given
+Holds (turning-both-leaves way q w t p p' x x' given) = Turn-outcome way q w t p p' x x' given
+Holds (reporting-leaves file out out' given) = Report-outcome (bytes file) out out' given
 
 -- a row: its number, up to 10 that of document 01, and what it claims
 pub record Example : Type 0 where
@@ -155,6 +172,16 @@ turn-answered s q = record { answer = zeros-beside s; q = q }
 abbrev price-answered : (status pence : ℕ) → PriceAnswer
 price-answered s p = record { answer = zeros-beside s; pence = p }
 
+-- the same with m, q and n, with the file's length, and with the report's
+abbrev read-answered : (status m q n : ℕ) → ReadAnswer
+read-answered s m q n = record { answer = zeros-beside s; m = m; q = q; n = n }
+
+abbrev write-answered : (status bytes : ℕ) → WriteAnswer
+write-answered s l = record { answer = zeros-beside s; bytes = l }
+
+abbrev report-answered : (status bytes : ℕ) → ReportAnswer
+report-answered s l = record { answer = zeros-beside s; bytes = l }
+
 -- buffers for the tables of a pattern of one byte, and one entry more in each: before a call, and with its tables
 abbrev lent-to-one : Tables
 lent-to-one = tables (pos 9 ∷ pos 9 ∷ pos 9 ∷ []) (9 ∷ 9 ∷ 9 ∷ []) (replicate 257 9)
@@ -167,6 +194,12 @@ aacaa = a ∷ a ∷ c ∷ a ∷ a ∷ []
 
 abbrev cbaaa : List ℕ
 cbaaa = c ∷ b ∷ a ∷ a ∷ a ∷ []
+
+abbrev cac : List ℕ
+cac = c ∷ a ∷ c ∷ []
+
+abbrev acaca : List ℕ
+acaca = a ∷ c ∷ a ∷ c ∷ a ∷ []
 
 abbrev aaaa : List ℕ
 aaaa = a ∷ a ∷ a ∷ a ∷ []
@@ -491,7 +524,33 @@ examples =
     ∷ bound-is (a ∷ a ∷ []) (replicate 5 a) 8
     ∷ bound-is (a ∷ a ∷ a ∷ []) (replicate 5 c) 7
     ∷ bound-is (a ∷ a ∷ a ∷ []) (replicate 5 a) 10
+    ∷ bound-is (a ∷ a ∷ a ∷ []) (replicate 3 a) 4
+    ∷ bound-is (a ∷ a ∷ a ∷ []) (a ∷ a ∷ c ∷ []) 3
+    ∷ bound-is (c ∷ []) cac 5
+    ∷ bound-is acaca (a ∷ c ∷ acaca) 11
+    ∷ bound-is acaca (replicate 7 a) 9
     ∷ seek-prints "0105020000\n06\n06\n18\n06\n06\n" "0000\n00000000\n00000000\n0003\n00000000\n"
+    ∷ [])
+    -- The answers of whole calls with what they leave, done and refused: what a call does not work out is 0 in each. A buffer that is filled has an
+    -- entry more than is needed
+    ∷ row 29
+    (preparing-leaves (c ∷ []) lent-to-one left-by-one (answer 0 0 0 0 1 0)
+    ∷ preparing-leaves [] lent-to-one lent-to-one (zeros-beside 4)
+    ∷ searching-leaves (c ∷ []) cac lent-to-one left-by-one (replicate 4 9) (0 ∷ 2 ∷ 9 ∷ 9 ∷ []) (answer 0 2 3 0 1 5)
+    ∷ searching-leaves (c ∷ []) [] lent-to-one left-by-one (9 ∷ []) (9 ∷ []) (answer 0 0 0 0 1 0)
+    ∷ searching-leaves (c ∷ []) cac lent-to-one lent-to-one (9 ∷ []) (9 ∷ []) (zeros-beside 7)
+    ∷ converting-leaves 0 (c ∷ []) cac lent-to-one left-by-one (replicate 4 9) (0 ∷ 2 ∷ 9 ∷ 9 ∷ []) (replicate 4 9) (256 ∷ a ∷ 256 ∷ 9 ∷ [])
+    (answer 0 2 3 6 1 5)
+    ∷ converting-leaves 1 (c ∷ []) [] lent-to-one lent-to-one (9 ∷ []) (9 ∷ []) (9 ∷ []) (9 ∷ []) (zeros-beside 5)
+    ∷ reading-leaves "0101000001\n18\n06\n" (9 ∷ 9 ∷ []) (c ∷ 9 ∷ []) (9 ∷ 9 ∷ []) (a ∷ 9 ∷ []) (read-answered 0 1 0 1)
+    ∷ reading-leaves "0101000001\n18\n06\n" (9 ∷ []) (9 ∷ []) [] [] (read-answered 7 0 0 0)
+    ∷ writing-leaves 0 (c ∷ []) [] (replicate 15 9) (bytes "0101000000\n18\n" ++ (9 ∷ [])) (write-answered 0 14)
+    ∷ writing-leaves 0 (c ∷ []) [] (replicate 13 9) (replicate 13 9) (write-answered 7 0)
+    ∷ turning-both-leaves 3 0 (b ∷ a ∷ []) (a ∷ []) (replicate 3 9) (0x60 ∷ 0x80 ∷ 9 ∷ []) (9 ∷ 9 ∷ []) (0x60 ∷ 9 ∷ []) (turn-answered 0 1)
+    ∷ turning-both-leaves 4 0 (b ∷ a ∷ []) (a ∷ []) (replicate 3 9) (replicate 3 9) (9 ∷ 9 ∷ []) (9 ∷ 9 ∷ []) (turn-answered 8 0)
+    ∷ reporting-leaves "0101000000\n18\n" (replicate 38 9) (bytes "0000\n00000000\n00000000\n0001\n00000000\n" ++ (9 ∷ [])) (report-answered 0 37)
+    ∷ reporting-leaves "0101000000\n18\n" (replicate 36 9) (replicate 36 9) (report-answered 7 0)
+    ∷ reporting-leaves "" (replicate 6 9) (bytes "FF01\n" ++ (9 ∷ [])) (report-answered 0 5)
     ∷ [])
     ∷ []
 

@@ -30,7 +30,7 @@ comparison-bound-requires : tie.Need-comparison-bound-requires
 comparison-bound-requires c κs =
     let d = ran c in
     let e = written (d .before) in
-    bound-ready (fit (e .before)) (e .write-tables .ensures .0) (d .run-steps .ensures)
+    omega (arith, bound-ready (fit (e .before)) (e .write-tables .ensures .0) (d .run-steps .ensures))
 
 returns : tie.Need-returns
 returns c =
