@@ -34,18 +34,20 @@ pub fn convert(
     order: &mut [i16],
     delta2: &mut [u16],
     delta1: &mut [u16],
+    delta3: &mut [u16],
     found: &mut [u16],
     frames: &mut [u16],
 ) -> Answer
     ensures { λ r. ⌜ Convert-outcome «hold_offset» (now (pattern .entry)) (now (text .entry))
-        (tables (now (order .entry)) (now (delta2 .entry)) (now (delta1 .entry)))
-        (tables (now (order .exit)) (now (delta2 .exit)) (now (delta1 .exit)))
+        (tables (now (order .entry)) (now (delta2 .entry)) (now (delta1 .entry)) (now (delta3 .entry)))
+        (tables (now (order .exit)) (now (delta2 .exit)) (now (delta1 .exit)) (now (delta3 .exit)))
         (now (found .entry)) (now (found .exit)) (now (frames .entry)) (now (frames .exit)) r ⌝ }
 {
     let lengths = TableLengths {
         order: order.len(),
         delta2: delta2.len(),
         delta1: delta1.len(),
+        delta3: delta3.len(),
     };
     let hold_offset = hold_offset as usize;
     let n = text.len();
@@ -54,6 +56,6 @@ pub fn convert(
     if status != 0 {
         return answers::status_only(status);
     }
-    let searched = matcher::search_within(pattern, text, order, delta2, delta1, found);
+    let searched = matcher::search_within(pattern, text, order, delta2, delta1, delta3, found);
     write_frames(searched, hold_offset, text, found, frames)
 }

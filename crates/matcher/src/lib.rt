@@ -12,15 +12,17 @@ pub fn search_within(
     order: &mut [i16],
     delta2: &mut [u16],
     delta1: &mut [u16],
+    delta3: &mut [u16],
     found: &mut [u16],
 ) -> Answer
-    requires { ⌜ search-status-of (now pattern) (now text) (tables (now order) (now delta2) (now delta1)) (now found) ≡ 0 ⌝ }
+    requires { ⌜ search-status-of (now pattern) (now text) (tables (now order) (now delta2) (now delta1) (now delta3)) (now found) ≡ 0 ⌝ }
     ensures { λ r. ⌜ Search-outcome (now (pattern .entry)) (now (text .entry))
-        (tables (now (order .entry)) (now (delta2 .entry)) (now (delta1 .entry)))
-        (tables (now (order .exit)) (now (delta2 .exit)) (now (delta1 .exit))) (now (found .entry)) (now (found .exit)) r ⌝ }
+        (tables (now (order .entry)) (now (delta2 .entry)) (now (delta1 .entry)) (now (delta3 .entry)))
+        (tables (now (order .exit)) (now (delta2 .exit)) (now (delta1 .exit)) (now (delta3 .exit)))
+        (now (found .entry)) (now (found .exit)) r ⌝ }
 {
-    let period = prepare::write_tables(pattern, order, delta2, delta1);
-    let counts = steps::run_steps(pattern, text, order, delta2, delta1, found);
+    let period = prepare::write_tables(pattern, order, delta2, delta1, delta3);
+    let counts = steps::run_steps(pattern, text, order, delta2, delta1, delta3, found);
     let h = counts.occurrences;
     let bound = steps::comparison_bound(pattern.len() as u32, text.len() as u32, h, period);
     answers::searched(h, counts.comparisons, period, bound)
@@ -34,21 +36,24 @@ pub fn search(
     order: &mut [i16],
     delta2: &mut [u16],
     delta1: &mut [u16],
+    delta3: &mut [u16],
     found: &mut [u16],
 ) -> Answer
     ensures { λ r. ⌜ Search-outcome (now (pattern .entry)) (now (text .entry))
-        (tables (now (order .entry)) (now (delta2 .entry)) (now (delta1 .entry)))
-        (tables (now (order .exit)) (now (delta2 .exit)) (now (delta1 .exit))) (now (found .entry)) (now (found .exit)) r ⌝ }
+        (tables (now (order .entry)) (now (delta2 .entry)) (now (delta1 .entry)) (now (delta3 .entry)))
+        (tables (now (order .exit)) (now (delta2 .exit)) (now (delta1 .exit)) (now (delta3 .exit)))
+        (now (found .entry)) (now (found .exit)) r ⌝ }
 {
     let lengths = TableLengths {
         order: order.len(),
         delta2: delta2.len(),
         delta1: delta1.len(),
+        delta3: delta3.len(),
     };
     let n = text.len();
     let status = tables::status(pattern.len(), 0, n, lengths, found.len() < n);
     if status != 0 {
         return answers::status_only(status);
     }
-    search_within(pattern, text, order, delta2, delta1, found)
+    search_within(pattern, text, order, delta2, delta1, delta3, found)
 }

@@ -1,5 +1,5 @@
--- What the functions that work the tables out ask of each other and leave: h_min, k_min and r_min in tables of 129 entries, and the order.
--- These are definitions.
+-- What the functions that work the tables out ask of each other and leave: h_min, k_min and r_min in tables of 129 entries, the order, and
+-- Δ3 under way. These are definitions.
 use mathlib.Core.List.{List, map}
 use mathlib.Core.Path.{_≡_}
 use Prim.Native.Nat.{ℕ, _+_, _≤_, _<_}
@@ -41,3 +41,15 @@ pub record Second-group-written (w : List ℕ) (order order' : List ℤ) (begin 
 pub record Order-stored (w : List ℕ) (order : List ℤ) : Type 0 where
   pub taken : Pattern-taken w
   pub stored : take (length w + 1) order ≡ stored-order w
+
+-- each entry of a table is 0
+abbrev pub Zeros : (table : List ℕ) → Type 0
+Zeros table = (i : ℕ) → i < length table → getD table i 0 ≡ 0
+
+-- x is f(i) where i is at least `begin`, and else 0
+abbrev pub Value-from : (begin : ℕ) (f : ℕ → ℕ) (i x : ℕ) → Type 0
+Value-from begin f i x = (begin ≤ i → x ≡ f i) × (i < begin → x ≡ 0)
+
+-- each entry x of a table is so, by its index i
+abbrev pub Values-from : (begin : ℕ) (f : ℕ → ℕ) (table : List ℕ) → Type 0
+Values-from begin f table = (i : ℕ) → i < length table → Value-from begin f i (getD table i 0)

@@ -21,16 +21,19 @@ pub fn price(
     order: &mut [i16],
     delta2: &mut [u16],
     delta1: &mut [u16],
+    delta3: &mut [u16],
     found: &mut [u16],
 ) -> PriceAnswer
     ensures { λ r. ⌜ Price-outcome «hold_offset» (now (pattern .entry)) (now (text .entry))
-        (tables (now (order .entry)) (now (delta2 .entry)) (now (delta1 .entry)))
-        (tables (now (order .exit)) (now (delta2 .exit)) (now (delta1 .exit))) (now (found .entry)) (now (found .exit)) r ⌝ }
+        (tables (now (order .entry)) (now (delta2 .entry)) (now (delta1 .entry)) (now (delta3 .entry)))
+        (tables (now (order .exit)) (now (delta2 .exit)) (now (delta1 .exit)) (now (delta3 .exit)))
+        (now (found .entry)) (now (found .exit)) r ⌝ }
 {
     let lengths = TableLengths {
         order: order.len(),
         delta2: delta2.len(),
         delta1: delta1.len(),
+        delta3: delta3.len(),
     };
     let hold_offset = hold_offset as usize;
     let n = text.len();
@@ -41,7 +44,7 @@ pub fn price(
             pence: 0,
         };
     }
-    let searched = matcher::search_within(pattern, text, order, delta2, delta1, found);
+    let searched = matcher::search_within(pattern, text, order, delta2, delta1, delta3, found);
     PriceAnswer {
         answer: answers::status_only(0),
         pence: tariff::cost_by_holds(text, searched.occurrences),

@@ -15,6 +15,7 @@ fn report_taken(hold_offset: u32, pattern: &[u8], text: &[u8], out: &mut [u8]) -
     let mut order: [i16; 129] = [0; 129];
     let mut delta2: [u16; 129] = [0; 129];
     let mut delta1: [u16; 32768] = [0; 32768];
+    let mut delta3: [u16; 128] = [0; 128];
     let mut found: [u16; 16384] = [0; 16384];
     let mut frames: [u16; 16384] = [0; 16384];
     let searched = matcher::search_within(
@@ -23,6 +24,7 @@ fn report_taken(hold_offset: u32, pattern: &[u8], text: &[u8], out: &mut [u8]) -
         &mut order,
         &mut delta2,
         &mut delta1,
+        &mut delta3,
         &mut found,
     );
     let converted = converter::write_frames(

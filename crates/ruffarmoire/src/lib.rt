@@ -40,19 +40,20 @@ pub extern "C" fn write_job(
     writer::write_job(hold_offset, pattern, text, file)
 }
 
-// Prepares a pattern (motif): works its order, Δ2 and Δ1 out into the caller's buffers, and answers its period.
+// Prepares a pattern (motif): works its order, Δ2, Δ1 and Δ3 out into the caller's buffers, and answers its period.
 #[no_mangle]
 pub extern "C" fn prepare(
     pattern: &[u8],
     order: &mut [i16],
     delta2: &mut [u16],
     delta1: &mut [u16],
+    delta3: &mut [u16],
 ) -> Answer
     ensures { λ r. ⌜ Prepare-outcome (now (pattern .entry))
-        (tables (now (order .entry)) (now (delta2 .entry)) (now (delta1 .entry)))
-        (tables (now (order .exit)) (now (delta2 .exit)) (now (delta1 .exit))) r ⌝ }
+        (tables (now (order .entry)) (now (delta2 .entry)) (now (delta1 .entry)) (now (delta3 .entry)))
+        (tables (now (order .exit)) (now (delta2 .exit)) (now (delta1 .exit)) (now (delta3 .exit))) r ⌝ }
 {
-    prepare::prepare(pattern, order, delta2, delta1)
+    prepare::prepare(pattern, order, delta2, delta1, delta3)
 }
 
 // Lists every occurrence (find) of the pattern (motif) in the text (chain), counts the comparisons (looks), and answers the pattern's period and the bound
@@ -64,13 +65,15 @@ pub extern "C" fn search(
     order: &mut [i16],
     delta2: &mut [u16],
     delta1: &mut [u16],
+    delta3: &mut [u16],
     found: &mut [u16],
 ) -> Answer
     ensures { λ r. ⌜ Search-outcome (now (pattern .entry)) (now (text .entry))
-        (tables (now (order .entry)) (now (delta2 .entry)) (now (delta1 .entry)))
-        (tables (now (order .exit)) (now (delta2 .exit)) (now (delta1 .exit))) (now (found .entry)) (now (found .exit)) r ⌝ }
+        (tables (now (order .entry)) (now (delta2 .entry)) (now (delta1 .entry)) (now (delta3 .entry)))
+        (tables (now (order .exit)) (now (delta2 .exit)) (now (delta1 .exit)) (now (delta3 .exit)))
+        (now (found .entry)) (now (found .exit)) r ⌝ }
 {
-    matcher::search(pattern, text, order, delta2, delta1, found)
+    matcher::search(pattern, text, order, delta2, delta1, delta3, found)
 }
 
 // Converts a text (chain) to frames, by a pattern (motif) and a hold offset (hold place).
@@ -82,12 +85,13 @@ pub extern "C" fn convert(
     order: &mut [i16],
     delta2: &mut [u16],
     delta1: &mut [u16],
+    delta3: &mut [u16],
     found: &mut [u16],
     frames: &mut [u16],
 ) -> Answer
     ensures { λ r. ⌜ Convert-outcome «hold_offset» (now (pattern .entry)) (now (text .entry))
-        (tables (now (order .entry)) (now (delta2 .entry)) (now (delta1 .entry)))
-        (tables (now (order .exit)) (now (delta2 .exit)) (now (delta1 .exit)))
+        (tables (now (order .entry)) (now (delta2 .entry)) (now (delta1 .entry)) (now (delta3 .entry)))
+        (tables (now (order .exit)) (now (delta2 .exit)) (now (delta1 .exit)) (now (delta3 .exit)))
         (now (found .entry)) (now (found .exit)) (now (frames .entry)) (now (frames .exit)) r ⌝ }
 {
     converter::convert(
@@ -97,6 +101,7 @@ pub extern "C" fn convert(
         order,
         delta2,
         delta1,
+        delta3,
         found,
         frames,
     )
@@ -148,13 +153,24 @@ pub extern "C" fn price(
     order: &mut [i16],
     delta2: &mut [u16],
     delta1: &mut [u16],
+    delta3: &mut [u16],
     found: &mut [u16],
 ) -> PriceAnswer
     ensures { λ r. ⌜ Price-outcome «hold_offset» (now (pattern .entry)) (now (text .entry))
-        (tables (now (order .entry)) (now (delta2 .entry)) (now (delta1 .entry)))
-        (tables (now (order .exit)) (now (delta2 .exit)) (now (delta1 .exit))) (now (found .entry)) (now (found .exit)) r ⌝ }
+        (tables (now (order .entry)) (now (delta2 .entry)) (now (delta1 .entry)) (now (delta3 .entry)))
+        (tables (now (order .exit)) (now (delta2 .exit)) (now (delta1 .exit)) (now (delta3 .exit)))
+        (now (found .entry)) (now (found .exit)) r ⌝ }
 {
-    price::price(hold_offset, pattern, text, order, delta2, delta1, found)
+    price::price(
+        hold_offset,
+        pattern,
+        text,
+        order,
+        delta2,
+        delta1,
+        delta3,
+        found,
+    )
 }
 
 // Writes what SEEK prints for the job of a file.

@@ -1,19 +1,21 @@
 -- The comparisons decide the search (`Comparisons-decide`): a text that shows the same bytes wherever the search compares has its alignments.
 -- One step reads only what it compares, by induction on its row; the run by induction on the fuel.
+use mathlib.Core.Bool.{Bool, false}
 use mathlib.Core.List.{List, [], _∷_, _++_, map}
 use mathlib.Core.Logic.{⊎-elim}
 use mathlib.Core.Path.{_≡_, refl, sym, _∙_, ap}
 use Prim.Native.Nat.{ℕ, zero, suc, _+_, _≤_}
-use lib.ListN.{length, take}
+use native.Mathlib.Omega.{arith}
+use lib.ListN.{length, getD, take}
 use Rattle.tables.proofs.Cases.{le-or-lt, eq-or-ne}
 use Rattle.tables.specs.Sets.{byte}
-use Rattle.tables.specs.Tables.{order}
 use Rattle.steps.proofs.Occurrences.{occurrences-right}
+use Rattle.steps.proofs.Rows.{row-first, row-some}
 use Rattle.steps.proofs.Steps.{agreeing-none, agreeing-agrees, agreeing-differs, step-comparisons, step-determined, run-over, run-step}
 use Rattle.steps.proofs.Text.{span-same}
 use Rattle.steps.specs.Occurrences.{occurrences}
 use Rattle.steps.specs.Promises.{Comparisons-decide, Same-at, Occurrences-right}
-use Rattle.steps.specs.Steps.{Comparison, agreeing, step, alignments-from, alignments, compared, comparisons-of, comparisons, listed}
+use Rattle.steps.specs.Steps.{Comparison, agreeing, row, step, repeat-after, alignments-from, alignments, compared, comparisons-of, comparisons, listed}
 use Rattle.steps.specs.Text.{shown, span}
 
 module _ (f g : ℕ → ℕ) where
@@ -39,31 +41,40 @@ module _ (f g : ℕ → ℕ) where
       (λ d. agreeing-differs g w b i row (λ e. d (e ∙ sym (h .0))) ∙ sym (agreeing-differs f w b i row d))
       (eq-or-ne (byte w i) (f (b + i)))
 
-  step-same : (w : List ℕ) (b s : ℕ) → Same-at (compared (step f w b s)) f g → step g w b s ≡ step f w b s
-  unfolding Same-at order
-  step-same w b s h =
-      let here = rw (step-comparisons f w b s) at h in
-      step-determined f w b s g (agreeing-same w b (order w) here) (sym (here .0))
+  -- the first entry of a row is compared
+  first-same : (b n : ℕ) (row : List ℕ) → 1 ≤ length row → Same-at (along b (suc n) row) f g → f (b + getD row 0 0) ≡ g (b + getD row 0 0)
+  unfolding Same-at
+  first-same b n [] l h = absurd (omega arith)
+  first-same b n (i ∷ row) l h = h .0
 
-  run-same :
-      (N : ℕ) (w : List ℕ) (fuel b s : ℕ) → Same-at (comparisons-of (alignments-from fuel f N w b s)) f g →
-      alignments-from fuel g N w b s ≡ alignments-from fuel f N w b s
-  unfolding alignments-from comparisons-of
-  run-same N w zero b s h = refl
-  run-same N w (suc fuel) b s h =
-      let k = step f w b s .shift in
-      ⊎-elim
-      (λ l.
-      let first = run-step f w b s fuel N l in
-      let parts = same-append (compared (step f w b s)) _ (rw first at h) in
-      let same = step-same w b s (parts .0) in
-      run-step g w b s fuel N l ∙ rw (same, run-same N w fuel (b + k) k (parts .1)) (sym first))
-      (λ l. run-over g w b s (suc fuel) N l ∙ sym (run-over f w b s (suc fuel) N l))
-      (le-or-lt (b + length w) N)
+  module _ (w : List ℕ) (nonempty : 1 ≤ length w) where
+    step-same :
+        (b s : ℕ) (repeat : Bool) → Same-at (compared (step f w b s repeat)) f g → step g w b s repeat ≡ step f w b s repeat
+    step-same b s repeat h =
+        let here = rw (step-comparisons f w b s repeat) at h in
+        let first = first-same b (agreeing f w b (row w repeat)) (row w repeat) (row-some w repeat nonempty) here in
+        step-determined f w b s repeat g (agreeing-same w b (row w repeat) here) (sym (rw (row-first w repeat) at first))
+
+    run-same :
+        (N fuel b s : ℕ) (repeat : Bool) → Same-at (comparisons-of (alignments-from fuel f N w b s repeat)) f g →
+        alignments-from fuel g N w b s repeat ≡ alignments-from fuel f N w b s repeat
+    unfolding alignments-from comparisons-of
+    run-same N zero b s repeat h = refl
+    run-same N (suc fuel) b s repeat h =
+        let here = step f w b s repeat in
+        let k = here .shift in
+        ⊎-elim
+        (λ l.
+        let first = run-step f w b s repeat fuel N l in
+        let parts = same-append (compared here) _ (rw first at h) in
+        let same = step-same b s repeat (parts .0) in
+        run-step g w b s repeat fuel N l ∙ rw (same, run-same N fuel (b + k) k (repeat-after w here) (parts .1)) (sym first))
+        (λ l. run-over g w b s repeat (suc fuel) N l ∙ sym (run-over f w b s repeat (suc fuel) N l))
+        (le-or-lt (b + length w) N)
 
 pub comparisons-decide : Comparisons-decide
 unfolding Comparisons-decide alignments
-comparisons-decide f g N w h same = run-same f g N w (suc N) 0 (length w) same
+comparisons-decide f g N w h same = run-same f g w h N (suc N) 0 (length w) false same
 
 -- and so two texts of one length have the same comparisons in the same order, and the same occurrences
 pub same-texts :

@@ -1,9 +1,9 @@
 -- The occurrences that the steps list are exactly those by meaning (`Occurrences-right`), over any text.
 -- A step tells whether its own position is one and passes over none; by induction on the fuel.
-use mathlib.Core.Bool.{true, false, cond, and-eq-true-iff}
+use mathlib.Core.Bool.{Bool, true, false, cond, and-eq-true-iff}
 use mathlib.Core.List.{List, [], _∷_}
 use mathlib.Core.Logic.{⊎-elim}
-use mathlib.Core.Path.{_≡_, refl, sym, _∙_, ap}
+use mathlib.Core.Path.{_≡_, refl, sym, _∙_}
 use Prim.Native.Nat.{ℕ, zero, suc, _+_, _-_, _≤_, _<_}
 use native.Mathlib.Nat.{eq-or-lt-of-le, zero-add, add-zero, suc-add}
 use native.Mathlib.Omega.{arith}
@@ -11,17 +11,15 @@ use borrow.Author.Tests.{eqb-true, leb-true, le-leb, lt-leb, eq-eqb, ne-eqb}
 use lib.Dec.{leb, eqb}
 use lib.ListN.{length}
 use Rattle.tables.proofs.Cases.{true-or-false, le-or-lt}
-use Rattle.tables.proofs.Groups.{order-below}
 use Rattle.tables.proofs.Least.{all-each, each-all}
-use Rattle.tables.proofs.Order.{order-stands}
 use Rattle.tables.specs.Sets.{byte}
-use Rattle.tables.specs.Tables.{order}
-use Rattle.steps.proofs.Shift.{Carried, Excluded, by-byte, carried-on, carried-first, passed-over}
+use Rattle.steps.proofs.Rows.{row-below}
+use Rattle.steps.proofs.Shift.{Carried, all-agree, carried-on, carried-first, passed-over}
 use Rattle.steps.proofs.Steps.{Agrees, agreeing-ends, step-listed, run-over, run-step}
 use Rattle.steps.proofs.Text.{span-few}
 use Rattle.steps.specs.Occurrences.{occurs, occurrences-from, all-occurrences, occurrences}
-use Rattle.steps.specs.Promises.{Occurrences-right}
-use Rattle.steps.specs.Steps.{agreeing, step, alignments-from, alignments, listed}
+use Rattle.steps.specs.Promises.{Occurrences-right, Spoilt}
+use Rattle.steps.specs.Steps.{Comparison, agreeing, row, step, repeat-after, alignments-from, alignments, listed}
 use Rattle.steps.specs.Text.{shown, span}
 
 module _ (f : ℕ → ℕ) (N : ℕ) (w : List ℕ) where
@@ -53,12 +51,9 @@ module _ (f : ℕ → ℕ) (N : ℕ) (w : List ℕ) where
       let later = few-from n (suc b) in
       ⊎-elim (λ e. rw e (omega (arith, occurs-inside b e))) (λ e. rw e (omega arith)) (true-or-false (occurs f N w b))
 
-  -- an excluded position is no occurrence
-  excluded-not : {s i : ℕ} (b j : ℕ) → b ≤ j → Excluded f w b s i (j - b) → occurs f N w j ≡ false
-  excluded-not b j v (by-byte g l seen (u, miss)) =
-      let at = g - (j - b) in
-      let there : j + at ≡ b + g = omega arith in
-      occurs-not j (λ each. miss (each at (omega arith) ∙ ap f there))
+  -- a position that a comparison spoils is no occurrence
+  spoilt-not : {made : List Comparison} (b : ℕ) → Spoilt f w made b → occurs f N w b ≡ false
+  spoilt-not b h = occurs-not b (λ each. h .differs (sym (each (h .j) (h .inside))))
 
   -- past the end there is none
   none-over : (n b : ℕ) → N < b + length w → occurrences-from n b f N w ≡ []
@@ -89,42 +84,43 @@ module _ (f : ℕ → ℕ) (N : ℕ) (w : List ℕ) where
 
   module _ (nonempty : 1 ≤ length w) where
     -- a step finds all agreeing just where its position is an occurrence
-    step-tells : (b : ℕ) → b + length w ≤ N → eqb (agreeing f w b (order w)) (length (order w)) ≡ occurs f N w b
-    step-tells b l =
-        let i = agreeing f w b (order w) in
-        let ends = agreeing-ends f w b (order w) in
+    step-tells :
+        (made : List Comparison) (b s : ℕ) (repeat : Bool) → Carried f w made b s repeat → b + length w ≤ N →
+        eqb (agreeing f w b (row w repeat)) (length (row w repeat)) ≡ occurs f N w b
+    step-tells made b s repeat known l =
+        let i = agreeing f w b (row w repeat) in
+        let ends = agreeing-ends f w b (row w repeat) in
         ⊎-elim
-        (λ e.
-        let each : (g : ℕ) → g < length w → Agrees f w b g = λ g u.
-        let (x, v, same) = order-stands w nonempty g u in
-        rw same at (ends .agree x (omega arith)) in
-        eq-eqb i _ e ∙ sym (agrees-occurs b l each))
-        (λ u. ne-eqb i _ (omega arith) ∙ sym (occurs-not b (λ all. ends .differ u (all _ (order-below w nonempty i u)))))
+        (λ e. eq-eqb i _ e ∙ sym (agrees-occurs b l (all-agree f w made b s repeat nonempty known e)))
+        (λ u. ne-eqb i _ (omega arith) ∙ sym (occurs-not b (λ all. ends .differ u (all _ (row-below w repeat nonempty i u)))))
         (eq-or-lt-of-le (ends .within))
 
     listed-right :
-        (fuel b s n : ℕ) → N < b + fuel → N < b + n → Carried f w b s →
-        listed (alignments-from fuel f N w b s) ≡ occurrences-from n b f N w
+        (fuel : ℕ) (made : List Comparison) (b s : ℕ) (repeat : Bool) (n : ℕ) → N < b + fuel → N < b + n → Carried f w made b s repeat →
+        listed (alignments-from fuel f N w b s repeat) ≡ occurrences-from n b f N w
     unfolding listed
-    listed-right zero b s n l u known = rw (run-over f w b s zero N (omega arith)) (sym (none-over n b (omega arith)))
-    listed-right (suc fuel) b s n l u known =
-        let k = step f w b s .shift in
-        let kept = carried-on f w b s nonempty known in
-        let later = listed-right fuel (b + k) k (n - k) (omega arith) (omega arith) kept in
-        let passed = passed-over f w b s nonempty known in
+    listed-right zero made b s repeat n l u known = rw (run-over f w b s repeat zero N (omega arith)) (sym (none-over n b (omega arith)))
+    listed-right (suc fuel) made b s repeat n l u known =
+        let here = step f w b s repeat in
+        let k = here .shift in
+        let kept = carried-on f w made b s repeat nonempty known in
+        let later = listed-right fuel _ (b + k) k (repeat-after w here) (n - k) (omega arith) (omega arith) kept in
+        let passed = passed-over f w made b s repeat nonempty known in
         let none : (j : ℕ) → b < j → j < b + k → occurs f N w j ≡ false = λ j i h.
-        excluded-not b j (omega arith) (passed (j - b) (omega arith) (omega arith)) in
+        let there : b + (j - b) ≡ j = omega arith in
+        spoilt-not j (rw there at (passed (j - b) (omega arith) (omega arith))) in
         ⊎-elim
         (λ v.
         let whole : k + (n - k) ≡ n = omega arith in
-        let here = rw whole at (next k (n - k) b (kept .positive) none) in
-        rw (run-step f w b s fuel N v, step-listed f w b s, step-tells b v, later) (sym here))
-        (λ v. rw (run-over f w b s (suc fuel) N v) (sym (none-over n b v)))
+        let from-here = rw whole at (next k (n - k) b (kept .positive) none) in
+        rw (run-step f w b s repeat fuel N v, step-listed f w b s repeat, step-tells made b s repeat known v, later) (sym from-here))
+        (λ v. rw (run-over f w b s repeat (suc fuel) N v) (sym (none-over n b v)))
         (le-or-lt (b + length w) N)
 
 pub occurrences-right : Occurrences-right
 unfolding Occurrences-right alignments all-occurrences
-occurrences-right f N w h = listed-right f N w h (suc N) 0 (length w) (suc N) (omega arith) (omega arith) (carried-first f w 0 h)
+occurrences-right f N w h =
+    listed-right f N w h (suc N) [] 0 (length w) false (suc N) (omega arith) (omega arith) (carried-first f w 0 h)
 
 pub occurrences-few : (w t : List ℕ) → 1 ≤ length w → length (occurrences w t) ≤ length t
 unfolding occurrences all-occurrences

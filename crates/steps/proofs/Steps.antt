@@ -1,6 +1,6 @@
 -- One step, unfolded once: how many comparisons agree along a row, the shift, the number of comparisons, and a run by its first step.
 -- By the tests of the definitions; after this file no proof unfolds `step`, `align` or `compared`.
-use mathlib.Core.Bool.{cond}
+use mathlib.Core.Bool.{Bool, _&&_, cond}
 use mathlib.Core.List.{List, [], _∷_, map}
 use mathlib.Core.Logic.{_≢_, ⊎-elim}
 use mathlib.Core.Path.{_≡_, refl, sym}
@@ -13,8 +13,8 @@ use lib.ListN.{length, getD, take, drop, length-append, length-map, length-take}
 use lib.Seq.{drop-cons, drop-length}
 use Rattle.tables.proofs.Cases.{eq-or-ne}
 use Rattle.tables.specs.Sets.{byte}
-use Rattle.tables.specs.Tables.{order, Δ1, Δ2}
-use Rattle.steps.specs.Steps.{Alignment, agreeing, align, step, alignments-from, compared, is-occurrence, comparisons-of, listed}
+use Rattle.tables.specs.Tables.{Δ1, repeats}
+use Rattle.steps.specs.Steps.{Alignment, agreeing, align, row, shifts, step, is-occurrence, repeat-after, alignments-from, compared, comparisons-of, listed}
 
 -- what an alignment at b shows at a pattern position
 abbrev pub Agrees : (f : ℕ → ℕ) (w : List ℕ) (b g : ℕ) → Type 0
@@ -81,53 +81,67 @@ module _ (f : ℕ → ℕ) (w : List ℕ) (b : ℕ) where
   pub agreed-all : (row : List ℕ) → Agreed row (length row) → agreeing f w b row ≡ length row
   agreed-all row h = let next = rw drop-length at h in omega (arith, agreeing-none)
 
-module _ (f : ℕ → ℕ) (w : List ℕ) (b s : ℕ) where
-  -- the shift is Δ1 where the first comparison differs, else Δ2 by the number that agreed
-  pub step-shift-first : agreeing f w b (order w) ≡ 0 → step f w b s .shift ≡ Δ1 w (f (b + (length w - 1))) s
+module _ (f : ℕ → ℕ) (w : List ℕ) (b s : ℕ) (repeat : Bool) where
+  -- how many entries of its row agree
+  abbrev agreed : ℕ
+  agreed = agreeing f w b (row w repeat)
+
+  -- the shift is Δ1 where the first comparison differs, else the one beside the row by the number that agreed
+  pub step-shift-first : agreed ≡ 0 → step f w b s repeat .shift ≡ Δ1 w (f (b + (length w - 1))) s
   unfolding step align
   step-shift-first e = rw (eq-eqb _ 0 e)
 
-  pub step-shift-later : 1 ≤ agreeing f w b (order w) → step f w b s .shift ≡ getD (Δ2 w) (agreeing f w b (order w)) 0
+  pub step-shift-later : 1 ≤ agreed → step f w b s repeat .shift ≡ getD (shifts w repeat) agreed 0
   unfolding step align
-  step-shift-later l = rw (ne-eqb (agreeing f w b (order w)) 0 (omega arith))
+  step-shift-later l = rw (ne-eqb agreed 0 (omega arith))
 
   -- of the text a step reads only how many agree and the byte at the last position
   pub step-determined :
-      (g : ℕ → ℕ) → agreeing g w b (order w) ≡ agreeing f w b (order w) → g (b + (length w - 1)) ≡ f (b + (length w - 1)) →
-      step g w b s ≡ step f w b s
+      (g : ℕ → ℕ) → agreeing g w b (row w repeat) ≡ agreed → g (b + (length w - 1)) ≡ f (b + (length w - 1)) →
+      step g w b s repeat ≡ step f w b s repeat
   unfolding step align
   step-determined g a c = rw (a, c)
 
   -- the comparisons are those that agreed, and one more where one differed
   pub step-comparisons :
-      compared (step f w b s)
-      ≡ map (λ i. record { pattern-position = i; text-position = b + i }) (take (suc (agreeing f w b (order w))) (order w))
+      compared (step f w b s repeat)
+      ≡ map (λ i. record { pattern-position = i; text-position = b + i }) (take (suc agreed) (row w repeat))
   unfolding step align compared
   step-comparisons = refl
 
   pub step-count :
       (later : List Alignment) →
-      length (comparisons-of (step f w b s ∷ later))
-      ≡ min (suc (agreeing f w b (order w))) (length (order w)) + length (comparisons-of later)
+      length (comparisons-of (step f w b s repeat ∷ later)) ≡ min (suc agreed) (length (row w repeat)) + length (comparisons-of later)
   unfolding comparisons-of
   step-count later = simp (length-append, step-comparisons, length-map, length-take)
 
   -- a step lists its own position where all agree
   pub step-listed :
       (later : List Alignment) →
-      listed (step f w b s ∷ later) ≡ cond (eqb (agreeing f w b (order w)) (length (order w))) (b ∷ listed later) (listed later)
+      listed (step f w b s repeat ∷ later) ≡ cond (eqb agreed (length (row w repeat))) (b ∷ listed later) (listed later)
   unfolding listed is-occurrence step align
   step-listed later = refl
 
+  -- the next one is a repeat where all agree and the pattern repeats
+  pub step-repeat : repeat-after w (step f w b s repeat) ≡ eqb agreed (length (row w repeat)) && repeats w
+  unfolding repeat-after is-occurrence step align
+  step-repeat = refl
+
+  -- a step stands at its position
+  pub step-position : step f w b s repeat .position ≡ b
+  unfolding step align
+  step-position = refl
+
   -- a run ends past the text's end, and goes on by a step before it
-  pub run-over : (fuel N : ℕ) → N < b + length w → alignments-from fuel f N w b s ≡ []
+  pub run-over : (fuel N : ℕ) → N < b + length w → alignments-from fuel f N w b s repeat ≡ []
   unfolding alignments-from
   run-over zero N h = refl
   run-over (suc fuel) N h = rw (lt-leb _ _ h)
 
   pub run-step :
       (fuel N : ℕ) → b + length w ≤ N →
-      alignments-from (suc fuel) f N w b s
-      ≡ step f w b s ∷ alignments-from fuel f N w (b + step f w b s .shift) (step f w b s .shift)
+      let here = step f w b s repeat in
+      alignments-from (suc fuel) f N w b s repeat
+      ≡ here ∷ alignments-from fuel f N w (b + here .shift) (here .shift) (repeat-after w here)
   unfolding alignments-from
   run-step fuel N h = rw (le-leb _ _ h)

@@ -2,15 +2,16 @@
 use mathlib.Core.Bool.{cond}
 use mathlib.Core.List.{List}
 use Prim.Native.Nat.{ℕ, _+_, _*_, _-_}
-use lib.Dec.{ltb}
+use lib.Dec.{ltb, leb}
 use lib.ListN.{length}
 use Rattle.tables.specs.Tables.{period}
 use Rattle.steps.specs.Occurrences.{occurrences}
 use Rattle.steps.specs.Text.{span}
 
--- for m, n, h finds and the period p: 2 × n - m + h × (the larger of 0 and m - 2 × p); 0 for n below m
+-- for m, n, h finds and the period p: 0 for n below m; 2 × n - m for m at least 3 × p (document 02, "Long repeats"); else
+-- 2 × n - m + h × (the larger of 0 and m - 2 × p)
 unfoldable pub bound : (m n h p : ℕ) → ℕ
-bound m n h p = cond (ltb n m) 0 (2 * n - m + h * (m - 2 * p))
+bound m n h p = cond (ltb n m) 0 (cond (leb (3 * p) m) (2 * n - m) (2 * n - m + h * (m - 2 * p)))
 
 -- of a search for w in the text t
 abbrev pub search-bound : (w t : List ℕ) → ℕ

@@ -1,9 +1,12 @@
 -- What is promised of the steps, over any text as in Steps: each is a type, and its proof is in proofs/ (docs/PROMISES.md).
 -- These are definitions.
-use mathlib.Core.List.{List, [], _∷_}
+use mathlib.Core.Bool.{Bool}
+use mathlib.Core.List.{List, [], _∷_, _++_}
+use mathlib.Core.Logic.{_≢_, _⊎_}
 use mathlib.Core.Path.{_≡_}
 use Prim.Native.Nat.{ℕ, _+_, _≤_, _<_}
 use lib.ListN.{length}
+use Rattle.tables.specs.Sets.{byte}
 use Rattle.tables.specs.Tables.{period}
 use Rattle.steps.specs.Bound.{bound}
 use Rattle.steps.specs.Occurrences.{all-occurrences}
@@ -17,14 +20,33 @@ ends-at b (a ∷ later) = ends-at (b + a .shift) later
 -- the fuel of the steps is never short: more changes nothing, and the run ends past the text's end, as document 01's "while" does
 unfoldable pub Fuel-enough : Type 0
 Fuel-enough =
-    (f : ℕ → ℕ) (N : ℕ) (w : List ℕ) → 1 ≤ length w → (fuel b s : ℕ) → N < b + fuel →
-    ((more : ℕ) → alignments-from (fuel + more) f N w b s ≡ alignments-from fuel f N w b s)
-    × (N < ends-at b (alignments-from fuel f N w b s) + length w)
+    (f : ℕ → ℕ) (N : ℕ) (w : List ℕ) → 1 ≤ length w → (fuel b s : ℕ) (repeat : Bool) → N < b + fuel →
+    ((more : ℕ) → alignments-from (fuel + more) f N w b s repeat ≡ alignments-from fuel f N w b s repeat)
+    × (N < ends-at b (alignments-from fuel f N w b s repeat) + length w)
 
 -- demand 2: the occurrences that the steps list are exactly those by meaning, each once and ascending
 unfoldable pub Occurrences-right : Type 0
 Occurrences-right =
     (f : ℕ → ℕ) (N : ℕ) (w : List ℕ) → 1 ≤ length w → listed (alignments f N w) ≡ all-occurrences f N w
+
+-- a text position was compared: it is that of one of these comparisons
+unfoldable pub Compared-at : List Comparison → (x : ℕ) → Type 0
+Compared-at [] x = ⊥
+Compared-at (c ∷ later) x = (c .text-position ≡ x) ⊎ Compared-at later x
+
+-- of the comparisons made one spoils position b: it shows where w(j) would stand a byte that is not w(j)
+pub record Spoilt (f : ℕ → ℕ) (w : List ℕ) (made : List Comparison) (b : ℕ) : Type 0 where
+  pub j : ℕ
+  pub inside : j < length w
+  pub compared : Compared-at made (b + j)
+  pub differs : f (b + j) ≢ byte w j
+
+-- every position that a shift passes over is spoilt by a comparison made at its alignment or before it
+unfoldable pub Passed-spoilt : Type 0
+Passed-spoilt =
+    (f : ℕ → ℕ) (N : ℕ) (w : List ℕ) → 1 ≤ length w →
+    (before : List Alignment) (a : Alignment) (later : List Alignment) → alignments f N w ≡ before ++ (a ∷ later) →
+    (b : ℕ) → a .position < b → b < a .position + a .shift → Spoilt f w (comparisons-of (before ++ (a ∷ []))) b
 
 -- two texts show the same byte at every text position of these comparisons
 unfoldable pub Same-at : List Comparison → (f g : ℕ → ℕ) → Type 0

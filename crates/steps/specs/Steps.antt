@@ -1,12 +1,12 @@
--- The steps of a search with every comparison (document 01, "The steps"), over any text: f shows the byte at a position, and the positions
--- below N are shown. A text t has f = shown t and N = span w t. These are definitions.
-use mathlib.Core.Bool.{Bool, cond}
+-- The steps of a search with every comparison (document 01, "The steps"; document 02, "Long repeats"), over any text: f shows the byte at a
+-- position, and the positions below N are shown. A text t has f = shown t and N = span w t. These are definitions.
+use mathlib.Core.Bool.{Bool, false, _&&_, cond}
 use mathlib.Core.List.{List, [], _∷_, _++_, map}
 use Prim.Native.Nat.{ℕ, zero, suc, _+_, _-_}
 use lib.Dec.{leb, eqb}
 use lib.ListN.{length, getD, take}
 use Rattle.tables.specs.Sets.{byte}
-use Rattle.tables.specs.Tables.{order, Δ1, Δ2}
+use Rattle.tables.specs.Tables.{order, Δ1, Δ2, repeats, repeat-row, repeat-shifts}
 use Rattle.steps.specs.Text.{shown, span}
 
 -- a look: one comparison, known by its pattern position (motif place) i and its text position (chain place) b + i
@@ -35,32 +35,46 @@ align f w row first after b =
     let agreed = agreeing f w b row in
     record { position = b; row = row; agreed = agreed; shift = cond (eqb agreed 0) first (getD after agreed 0) }
 
--- one step at b, s the last shift: look at m - 1; if it differs, s becomes Δ1(byte seen, s); if it agrees, look at h(2), h(3) and on,
--- until one differs at h(i) or all agree (i = m + 1), and s becomes Δ2(i), which is stored at i - 1, the number that agreed
-unfoldable pub step : (f : ℕ → ℕ) → (w : List ℕ) → (b s : ℕ) → Alignment
-step f w b s = align f w (order w) (Δ1 w (f (b + (length w - 1))) s) (Δ2 w) b
+-- the row that an alignment goes by: the order h(1), h(2) and on, or in a repeat m - 1 down to m - p
+unfoldable pub row : (w : List ℕ) → (repeat : Bool) → List ℕ
+row w repeat = cond repeat (repeat-row w) (order w)
+
+-- the shifts beside it, at the number that agreed: Δ2, or in a repeat Δ3 of the position that differs, and p where all agree
+unfoldable pub shifts : (w : List ℕ) → (repeat : Bool) → List ℕ
+shifts w repeat = cond repeat (repeat-shifts w) (Δ2 w)
+
+-- one step at b, s the last shift, in a repeat p: look at m - 1; if it differs, s becomes Δ1(byte seen, s); if it agrees, look at the others of
+-- the row until one differs or all agree, and s becomes the shift beside it: Δ2(i) for h(i), i = m + 1 where all agree, stored at i - 1; in a
+-- repeat Δ3(i) for position i, and p where all agree
+unfoldable pub step : (f : ℕ → ℕ) → (w : List ℕ) → (b s : ℕ) → (repeat : Bool) → Alignment
+step f w b s repeat = align f w (row w repeat) (Δ1 w (f (b + (length w - 1))) s) (shifts w repeat) b
+
+-- all agree: b is an occurrence (find)
+unfoldable pub is-occurrence : Alignment → Bool
+is-occurrence a = eqb (a .agreed) (length (a .row))
+
+-- the alignment after this one is a repeat: after an occurrence, where m is at least 3 × p
+unfoldable pub repeat-after : (w : List ℕ) → Alignment → Bool
+repeat-after w a = is-occurrence a && repeats w
 
 -- the steps from b on, s the last shift: while b + m is at most N, an alignment at b, and its shift is added to b.
 -- The fuel bounds how many there are; it is never short (`Fuel-enough` of Promises)
-unfoldable pub alignments-from : (fuel : ℕ) → (f : ℕ → ℕ) → (N : ℕ) → (w : List ℕ) → (b s : ℕ) → List Alignment
-alignments-from zero f N w b s = []
-alignments-from (suc fuel) f N w b s =
-    let here = step f w b s in
-    let all = here ∷ alignments-from fuel f N w (b + here .shift) (here .shift) in
+unfoldable pub alignments-from :
+    (fuel : ℕ) → (f : ℕ → ℕ) → (N : ℕ) → (w : List ℕ) → (b s : ℕ) → (repeat : Bool) → List Alignment
+alignments-from zero f N w b s repeat = []
+alignments-from (suc fuel) f N w b s repeat =
+    let here = step f w b s repeat in
+    let all = here ∷ alignments-from fuel f N w (b + here .shift) (here .shift) (repeat-after w here) in
     cond (leb (b + length w) N) all []
 
 -- the alignments of a whole search: start with b = 0 and s = m
 unfoldable pub alignments : (f : ℕ → ℕ) → (N : ℕ) → (w : List ℕ) → List Alignment
-alignments f N w = alignments-from (suc N) f N w 0 (length w)
+alignments f N w = alignments-from (suc N) f N w 0 (length w) false
 
 -- the comparisons of an alignment: those that agreed and the one that differed, if one did
 unfoldable pub compared : Alignment → List Comparison
 compared a =
     map (λ i. record { pattern-position = i; text-position = a .position + i }) (take (suc (a .agreed)) (a .row))
-
--- all agree: b is an occurrence (find)
-unfoldable pub is-occurrence : Alignment → Bool
-is-occurrence a = eqb (a .agreed) (length (a .row))
 
 -- the comparisons (looks) of a list of alignments, in their order
 unfoldable pub comparisons-of : List Alignment → List Comparison

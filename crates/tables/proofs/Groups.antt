@@ -89,7 +89,7 @@ later-below w i b u = let (v, late, rank, before) = order-at w b (suc i) (omega 
     go (third z e n) late = omega arith
 
 -- an entry of a list that is mapped, with more after it
-front :
+pub front :
     {A : Type 0} (f : ℕ → A) (xs : List ℕ) (ys : List A) (d : A) (i : ℕ) → i < length xs →
     getD (map f xs ++ ys) i d ≡ f (getD xs i 0)
 front f [] ys d i u = absurd (omega arith)

@@ -10,5 +10,9 @@ pub mod Runs
 pub mod Order
 pub mod Groups
 pub mod LaterShift
+pub mod RepeatRow
+pub mod RepeatShift
+pub mod RepeatMinima
+pub mod LongShifts
 pub mod Stored
 pub mod Rooms

@@ -23,22 +23,25 @@ module _ {w : List ℕ} {lent : Tables} where
   tables-fit pattern room =
       let m = length w in
       let (some, few) = pattern-within m pattern in
-      let (first-two, delta1) = neither _ (ltb (length (lent .delta1)) (needed m .delta1)) room in
+      let (first-three, delta3) = neither _ (ltb (length (lent .delta3)) (needed m .delta3)) room in
+      let (first-two, delta1) = neither _ (ltb (length (lent .delta1)) (needed m .delta1)) first-three in
       let (order, delta2) = neither (ltb (length (lent .order)) (needed m .order)) (ltb (length (lent .delta2)) (needed m .delta2)) first-two in
       record {
         taken = record { some = some; few = few };
         order-room = ltb-false _ _ order;
         delta2-room = ltb-false _ _ delta2;
         delta1-room = ltb-false _ _ delta1;
+        delta3-room = ltb-false _ _ delta3;
       }
 
   pub not-short : Tables-fit w lent → tables-short (length w) (lengths lent) ≡ false
-  not-short fit = rw (le-ltb _ _ (fit .order-room), le-ltb _ _ (fit .delta2-room)) (le-ltb _ _ (fit .delta1-room))
+  not-short fit =
+      rw (le-ltb _ _ (fit .order-room), le-ltb _ _ (fit .delta2-room), le-ltb _ _ (fit .delta1-room)) (le-ltb _ _ (fit .delta3-room))
 
   -- once the tables are written
   pub tables-done : {left : Tables} → Tables-written w lent left → left ≡ tables-left 0 w lent
   unfolding tables-left if-done
-  tables-done r = λ i. record { order = r .order i; delta2 = r .delta2 i; delta1 = r .delta1 i }
+  tables-done r = λ i. record { order = r .order i; delta2 = r .delta2 i; delta1 = r .delta1 i; delta3 = r .delta3 i }
 
   -- Δ2's entry for an occurrence is the period
   pub period-written : Pattern-taken w → {left : Tables} → Tables-written w lent left → getD (left .delta2) (length w) 0 ≡ period w

@@ -10,30 +10,35 @@ use lib.ListN.{length}
 use Rattle.answers.specs.Answers.{if-done}
 use Rattle.answers.specs.Buffers.{in-front}
 use Rattle.answers.specs.Refusals.{Refusal, refuse, first-of, longest-pattern, job-refusals}
-use Rattle.tables.specs.Tables.{stored-order, Δ2, stored-Δ1}
+use Rattle.tables.specs.Tables.{stored-order, Δ2, stored-Δ1, stored-Δ3}
 use Rattle.tables.specs.declared.TableLengths.{TableLengths}
 
--- what stands in the buffers for order, Δ2 and Δ1
+-- what stands in the buffers for order, Δ2, Δ1 and Δ3
 pub record Tables : Type 0 where
   pub order : List ℤ
   pub delta2 : List ℕ
   pub delta1 : List ℕ
+  pub delta3 : List ℕ
 
 -- these buffers together
-abbrev pub tables : (order : List ℤ) → (delta2 delta1 : List ℕ) → Tables
-tables o d2 d1 = record { order = o; delta2 = d2; delta1 = d1 }
+abbrev pub tables : (order : List ℤ) → (delta2 delta1 delta3 : List ℕ) → Tables
+tables o d2 d1 d3 = record { order = o; delta2 = d2; delta1 = d1; delta3 = d3 }
 
 -- how long the buffers are
 abbrev pub lengths : Tables → TableLengths
-lengths x = record { order = length (x .order); delta2 = length (x .delta2); delta1 = length (x .delta1) }
+lengths x = record { order = length (x .order); delta2 = length (x .delta2); delta1 = length (x .delta1); delta3 = length (x .delta3) }
 
--- needed are m + 1 entries each for order and Δ2, 256 × m for Δ1
+-- needed are m + 1 entries each for order and Δ2, 256 × m for Δ1, m for Δ3
 abbrev pub needed : (m : ℕ) → TableLengths
-needed m = record { order = m + 1; delta2 = m + 1; delta1 = 256 * m }
+needed m = record { order = m + 1; delta2 = m + 1; delta1 = 256 * m; delta3 = m }
 
 -- a buffer is too short
 abbrev pub tables-short : (m : ℕ) → TableLengths → Bool
-tables-short m l = ltb (l .order) (needed m .order) || ltb (l .delta2) (needed m .delta2) || ltb (l .delta1) (needed m .delta1)
+tables-short m l =
+    ltb (l .order) (needed m .order)
+    || ltb (l .delta2) (needed m .delta2)
+    || ltb (l .delta1) (needed m .delta1)
+    || ltb (l .delta3) (needed m .delta3)
 
 -- a pattern's length is one that is taken
 pub record Pattern-taken (w : List ℕ) : Type 0 where
@@ -46,6 +51,7 @@ pub record Tables-fit (w : List ℕ) (lent : Tables) : Type 0 where
   pub order-room : needed (length w) .order ≤ length (lent .order)
   pub delta2-room : needed (length w) .delta2 ≤ length (lent .delta2)
   pub delta1-room : needed (length w) .delta1 ≤ length (lent .delta1)
+  pub delta3-room : needed (length w) .delta3 ≤ length (lent .delta3)
 
 -- 7, as far as the tables go
 abbrev pub table-refusal : (m : ℕ) → TableLengths → Refusal
@@ -57,7 +63,9 @@ measured-status m q n l short = first-of (job-refusals m q n ++ (table-refusal m
 
 -- the tables of a pattern, as they are stored, in front of what the buffers held
 abbrev pub with-tables : (w : List ℕ) → (lent : Tables) → Tables
-with-tables w x = tables (in-front (stored-order w) (x .order)) (in-front (Δ2 w) (x .delta2)) (in-front (stored-Δ1 w) (x .delta1))
+with-tables w x =
+    tables (in-front (stored-order w) (x .order)) (in-front (Δ2 w) (x .delta2)) (in-front (stored-Δ1 w) (x .delta1))
+    (in-front (stored-Δ3 w) (x .delta3))
 
 -- what is left in the buffers by a call of this status that works the tables out
 unfoldable pub tables-left : (status : ℕ) → (w : List ℕ) → (lent : Tables) → Tables
@@ -68,3 +76,4 @@ pub record Tables-written (w : List ℕ) (lent left : Tables) : Type 0 where
   pub order : left .order ≡ with-tables w lent .order
   pub delta2 : left .delta2 ≡ with-tables w lent .delta2
   pub delta1 : left .delta1 ≡ with-tables w lent .delta1
+  pub delta3 : left .delta3 ≡ with-tables w lent .delta3

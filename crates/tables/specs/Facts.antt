@@ -84,3 +84,16 @@ pub record Later-shift (w : List ℕ) (i k : ℕ) : Type 0 where
   pub few : i < length w → suc i ≤ 2 * k
   -- after an occurrence it is the period
   pub whole : i ≡ length w → k ≡ period w
+
+-- the text's byte under pattern position g is known where position i of a repeat differed: g is above i and agreed, or below m - p
+abbrev pub Known : (w : List ℕ) → (i g : ℕ) → Type 0
+Known w i g = (g < length w) × ((i < g) ⊎ (g + period w < length w))
+
+-- k is Δ3(i)
+pub record Repeat-shift (w : List ℕ) (i k : ℕ) : Type 0 where
+  pub positive : 1 ≤ k
+  pub within : k ≤ length w
+  pub outside-differing : In-pos w (byte w i) i k → ⊥
+  pub outside-known : (g : ℕ) → Known w i g → Out-neg w (byte w g) g k
+  -- every smaller shift is refuted
+  pub least : (j : ℕ) → 1 ≤ j → j < k → In-pos w (byte w i) i j ⊎ ((g : ℕ) × Known w i g × In-neg w (byte w g) g j)

@@ -1,13 +1,13 @@
 -- Colussi's tables of a pattern w of m bytes, by their sets (document 01, "The motif's tables"; document 002, sections 2 and 5).
 -- These are definitions.
-use mathlib.Core.Bool.{_&&_, cond}
+use mathlib.Core.Bool.{Bool, _&&_, cond}
 use mathlib.Core.List.{List, [], _∷_, _++_, map}
 use Prim.Native.Nat.{ℕ, zero, suc, _+_, _*_, _-_, _/_, _%_}
 use lib.Dec.{ltb, leb, eqb}
 use lib.IntN.{ℤ, pos, negsuc, subℕ}
 use lib.ListN.{length}
 use Rattle.tables.specs.Least.{least-from, all-from}
-use Rattle.tables.specs.Sets.{byte, outside, Neg}
+use Rattle.tables.specs.Sets.{byte, outside, Pos, Neg}
 
 -- h_min(k), k from 1 to m: the least h at or above k - 1 such that k is outside Neg(w(j), j) for all j above h
 unfoldable pub h-min : (w : List ℕ) → (k : ℕ) → ℕ
@@ -80,3 +80,41 @@ stored-Δ1-from (suc n) i w = Δ1 w (i / length w) (i % length w + 1) ∷ stored
 
 unfoldable pub stored-Δ1 : (w : List ℕ) → List ℕ
 stored-Δ1 w = stored-Δ1-from (256 * length w) 0 w
+
+-- the pattern repeats (document 02, "Long repeats"): m is at least 3 × p
+unfoldable pub repeats : (w : List ℕ) → Bool
+repeats w = leb (3 * period w) (length w)
+
+-- Δ3(i): the least k of 1 or more outside Pos(w(i), i), outside Neg(w(j), j) for j above i, and outside Neg(w(j), j) for j below m - p
+unfoldable pub Δ3 : (w : List ℕ) → (i : ℕ) → ℕ
+Δ3 w i =
+    let m = length w in
+    let p = period w in
+    least-from m 1 λ k.
+    let keeps : ℕ → Bool = λ j. outside (Neg w (byte w j) (pos j)) k in
+    outside (Pos w (byte w i) (pos i)) k && all-from (m - suc i) (suc i) keeps && all-from (m - p) 0 keeps
+
+-- Δ3 is defined for i from m - p to m - 2 where the pattern repeats
+unfoldable pub Δ3-defined : (w : List ℕ) → (i : ℕ) → Bool
+Δ3-defined w i = repeats w && leb (length w - period w) i && leb i (length w - 2)
+
+-- Δ3 as it is stored: entry i at i, 0 wherever it is not defined
+unfoldable pub stored-Δ3-from : (count at : ℕ) → (w : List ℕ) → List ℕ
+stored-Δ3-from zero i w = []
+stored-Δ3-from (suc n) i w = cond (Δ3-defined w i) (Δ3 w i) 0 ∷ stored-Δ3-from n (suc i) w
+
+unfoldable pub stored-Δ3 : (w : List ℕ) → List ℕ
+stored-Δ3 w = stored-Δ3-from (length w) 0 w
+
+-- so many numbers, falling from i on
+unfoldable pub falling : (count i : ℕ) → List ℕ
+falling zero i = []
+falling (suc n) i = i ∷ falling n (i - 1)
+
+-- the row of a repeat, in the order in which it is compared: m - 1 down to m - p
+unfoldable pub repeat-row : (w : List ℕ) → List ℕ
+repeat-row w = falling (period w) (length w - 1)
+
+-- the shifts beside it, as Δ2 stands beside the order: 0 for the first entry, Δ3 for the others, p where all agree
+unfoldable pub repeat-shifts : (w : List ℕ) → List ℕ
+repeat-shifts w = 0 ∷ map (Δ3 w) (falling (period w - 1) (length w - 2)) ++ (period w ∷ [])

@@ -9,6 +9,7 @@ pub struct TableLengths {
     pub order: usize,
     pub delta2: usize,
     pub delta1: usize,
+    pub delta3: usize,
 }
 
 // Whether buffers of these lengths are too short for the tables of a pattern of m bytes. All are tested, so that it is one expression.
@@ -16,7 +17,10 @@ fn too_short(m: usize, lengths: TableLengths) -> bool
     requires { ⌜ m ≤ 128 ⌝ }
     ensures { λ r. ⌜ r ≡ tables-short m lengths ⌝ }
 {
-    (lengths.order < m + 1) | (lengths.delta2 < m + 1) | (lengths.delta1 < 256 * m)
+    (lengths.order < m + 1)
+        | (lengths.delta2 < m + 1)
+        | (lengths.delta1 < 256 * m)
+        | (lengths.delta3 < m)
 }
 
 // The status of a call that works the tables out, measured before anything is written: 4, 5 and 6 in their order, then 7 where the buffers for

@@ -26,11 +26,11 @@ use Rattle.tables.specs.Least.{least-from, all-from}
 use Rattle.tables.proofs.Cases.{le-or-lt}
 use Rattle.tables.specs.Buffers.{tables-left}
 use Rattle.tables.specs.Prepare.{prepare-status}
-use Rattle.tables.specs.Sets.{byte, Neg}
-use Rattle.tables.specs.Tables.{h-min, k-min, r-min, period, second-group-from, second-group, third-group-from, third-group, order, stored-order, Δ1, Δ2, stored-Δ1-from, stored-Δ1}
+use Rattle.tables.specs.Sets.{byte, Pos, Neg}
+use Rattle.tables.specs.Tables.{h-min, k-min, r-min, period, second-group-from, second-group, third-group-from, third-group, order, stored-order, Δ1, Δ2, stored-Δ1-from, stored-Δ1, repeats, Δ3, Δ3-defined, stored-Δ3-from, stored-Δ3, falling, repeat-row, repeat-shifts}
 use Rattle.steps.specs.Occurrences.{occurs, occurrences-from, all-occurrences, occurrences}
 use Rattle.steps.specs.Bound.{bound}
-use Rattle.steps.specs.Steps.{agreeing, align, step, alignments-from, alignments, compared, is-occurrence, comparisons-of, listed, comparisons}
+use Rattle.steps.specs.Steps.{agreeing, align, row, shifts, step, alignments-from, alignments, compared, is-occurrence, repeat-after, comparisons-of, listed, comparisons}
 use Rattle.steps.specs.Text.{shown, span}
 use Rattle.matcher.specs.Search.{search-status, found-left}
 use Rattle.frames.specs.Frames.{with-holds, frames}
@@ -87,9 +87,10 @@ pub examples-hold : All-hold examples
 unfolding bytes Holds examples All All-hold
     if-done answered count-answer first-of job-refusals is-digit digit-value digit digits all-digits number
     lines read-status write-status prepare-status search-status convert-status count-status report-status refused-report first-line job-file edition-in m-in q-in n-in bytes-in pattern-in text-in good-line good-lines file-refusals file-status
-    least-from all-from Neg h-min k-min r-min period second-group-from second-group third-group-from third-group order stored-order Δ1 Δ2
+    least-from all-from Pos Neg h-min k-min r-min period second-group-from second-group third-group-from third-group order stored-order Δ1 Δ2
+    repeats Δ3 Δ3-defined stored-Δ3-from stored-Δ3 falling repeat-row repeat-shifts
     occurs occurrences-from all-occurrences occurrences bound shown span
-    agreeing align step alignments-from alignments compared is-occurrence comparisons-of listed comparisons
+    agreeing align row shifts step alignments-from alignments compared is-occurrence repeat-after comparisons-of listed comparisons
     with-holds frames ones ones-of word-of line done-report seek-report
     reversed-bits mirrored turned-by turned turned-index turn-status turn-answer turned-left from-entry in-front
     restored converts-again is-conversion restore-status restored-left
@@ -111,7 +112,7 @@ examples-hold =
     then (taken 1 0 16384 (omega arith) (omega arith) (omega arith), (refl, (refl, (refl, (refl, (refl, (refl, (refl, (refl, (refl, tt))))))))))
     then (refl, (refl, (refl, (refl, (refl, (refl, (refl, (refl, (refl, (refl, (refl, (refl, (refl, (refl, tt))))))))))))))
     then (refl, (refl, (refl, (refl, (refl, (refl, (refl, (refl, (refl, (refl, (refl, (refl, (refl, (refl, (refl, (refl, (refl, (refl, (refl, tt)))))))))))))))))))
-    then (refl, (refl, (refl, (refl, (refl, tt)))))
+    then (refl, (refl, (refl, (refl, (refl, (refl, tt))))))
     then (refl, (refl, (refl, (refl, (refl, tt)))))
     then (refl, (refl, (refl, (refl, (refl, (refl, (refl, (refl, (refl, tt)))))))))
     then ((refl, refl), ((refl, refl), ((refl, refl), ((refl, refl), (refl, (refl, tt))))))
@@ -121,8 +122,12 @@ examples-hold =
     then (record { answer = refl; text-left = refl }, (record { answer = refl; text-left = refl }, (record { answer = refl; text-left = refl }, (record { answer = refl; text-left = refl }, (record { answer = refl; text-left = refl }, (record { answer = refl; text-left = refl }, (refl, (refl, (refl, (refl, tt))))))))))
     then (refl, (refl, (refl, (refl, (refl, (refl, (refl, (refl, (refl, (refl, (refl, (refl, (refl, (refl, (refl, tt)))))))))))))))
     then (job-none 4097 0x00 b 0 refl ∙ cost-equal 4097 0x00 0x00, (cost-equal 4096 0x00 0x00, (cost-equal 4097 0x00 0x00, (cost-equal 4096 0x00 256, (cost-equal 4097 0x00 256, (cost-equal 16384 0xFF 256, (refl, (refl, (refl, (refl, (refl, (refl, tt))))))))))))
-    then (record { answer = refl; tables = refl; occurrences-left = refl }, (record { answer = refl; tables = refl; occurrences-left = refl }, (record { answer = refl; tables = refl; occurrences-left = refl }, (record { answer = refl; tables = refl; occurrences-left = refl }, (record { answer = refl; tables = refl; occurrences-left = refl }, (record { answer = refl; tables = refl; occurrences-left = refl }, (record { answer = refl; tables = refl; occurrences-left = refl }, (refl, (refl, (refl, (refl, (refl, (refl, (refl, (refl, (refl, (refl, (refl, (refl, (refl, tt))))))))))))))))))))
+    then (record { answer = refl; tables = refl; occurrences-left = refl }, (record { answer = refl; tables = refl; occurrences-left = refl }, (record { answer = refl; tables = refl; occurrences-left = refl }, (record { answer = refl; tables = refl; occurrences-left = refl }, (record { answer = refl; tables = refl; occurrences-left = refl }, (record { answer = refl; tables = refl; occurrences-left = refl }, (record { answer = refl; tables = refl; occurrences-left = refl }, (refl, (refl, (refl, (refl, (refl, (refl, (refl, (refl, (refl, (refl, (refl, (refl, (refl, (refl, tt)))))))))))))))))))))
     then (refl, (refl, (refl, (refl, tt))))
     then (refl, (refl, (refl, (refl, (refl, (refl, (refl, (refl, (refl, (refl, (refl, (refl, (refl, (refl, (refl, (refl, (refl, (refl, tt))))))))))))))))))
     then (record { answer = refl; tables = refl }, (record { answer = refl; tables = refl }, (record { answer = refl; tables = refl; occurrences-left = refl }, (record { answer = refl; tables = refl; occurrences-left = refl }, (record { answer = refl; tables = refl; occurrences-left = refl }, (record { answer = refl; tables = refl; occurrences-left = refl; moves-and-holds-left = refl }, (record { answer = refl; tables = refl; occurrences-left = refl; moves-and-holds-left = refl }, (record { answer = refl; pattern-left = refl; text-left = refl }, (record { answer = refl; pattern-left = refl; text-left = refl }, (record { answer = refl; file-left = refl }, (record { answer = refl; file-left = refl }, (record { answer = refl; pattern-left = refl; text-left = refl }, (record { answer = refl; pattern-left = refl; text-left = refl }, (record { answer = refl; out-left = refl }, (record { answer = refl; out-left = refl }, (record { answer = refl; out-left = refl }, tt))))))))))))))))
+    then (refl, (refl, ((refl, refl), (refl, (refl, tt)))))
+    then (refl, (refl, (refl, (record { answer = refl; tables = refl }, (record { answer = refl; tables = refl }, (record { answer = refl; tables = refl }, (refl, (refl, (refl, (refl, tt))))))))))
+    then (refl, ((refl, refl), (refl, (refl, ((refl, refl), (refl, (refl, (refl, (refl, (refl, (refl, tt)))))))))))
+    then (refl, (refl, (refl, (refl, (refl, tt)))))
     then tt

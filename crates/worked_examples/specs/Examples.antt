@@ -16,11 +16,11 @@ use Rattle.job.specs.declared.ReadAnswer.{ReadAnswer}
 use Rattle.job.specs.declared.WriteAnswer.{WriteAnswer}
 use Rattle.tables.specs.Buffers.{Tables, tables, needed}
 use Rattle.tables.specs.Prepare.{prepare-status, prepare-done, Prepare-outcome}
-use Rattle.tables.specs.Tables.{period, stored-order, Δ1, Δ2}
+use Rattle.tables.specs.Tables.{period, stored-order, Δ1, Δ2, stored-Δ3}
 use Rattle.tables.specs.declared.TableLengths.{TableLengths}
 use Rattle.steps.specs.Bound.{search-bound}
 use Rattle.steps.specs.Occurrences.{occurrences}
-use Rattle.steps.specs.Steps.{alignments-in, comparisons, listed}
+use Rattle.steps.specs.Steps.{Comparison, alignments-in, comparisons, listed}
 use Rattle.matcher.specs.Search.{search-status, search-done, Search-outcome}
 use Rattle.ones.specs.Ones.{ones-of, count-status, count-answer}
 use Rattle.ones.specs.Words.{word-of}
@@ -43,8 +43,10 @@ pub data Claim : Type 0 where
   order-is : (w : List ℕ) → (entries : List ℤ) → Claim
   Δ2-from-2-is : (w : List ℕ) → (entries : List ℕ) → Claim
   Δ1-is : (w : List ℕ) → (c s k : ℕ) → Claim
+  stored-Δ3-is : (w : List ℕ) → (entries : List ℕ) → Claim
   occurrences-are : (w t : List ℕ) → (positions : List ℕ) → Claim
   comparisons-are : (w t : List ℕ) → (count : ℕ) → Claim
+  comparisons-in-order : (w t : List ℕ) → (made : List Comparison) → Claim
   bound-is : (w t : List ℕ) → (count : ℕ) → Claim
   ones-are : (t : List ℕ) → (count : ℕ) → Claim
   word-is : (bytes : List ℕ) → (word : ℕ) → Claim
@@ -102,9 +104,11 @@ Holds (period-is w p) = period w ≡ p
 Holds (order-is w entries) = stored-order w ≡ entries
 Holds (Δ2-from-2-is w entries) = drop 1 (Δ2 w) ≡ entries
 Holds (Δ1-is w c s k) = Δ1 w c s ≡ k
+Holds (stored-Δ3-is w entries) = stored-Δ3 w ≡ entries
 Holds (occurrences-are w t positions) =
     (occurrences w t ≡ positions) × (listed (alignments-in w t) ≡ positions)
 Holds (comparisons-are w t count) = length (comparisons w t) ≡ count
+Holds (comparisons-in-order w t made) = comparisons w t ≡ made
 Holds (bound-is w t count) = search-bound w t ≡ count
 Holds (ones-are t count) = ones-of t ≡ count
 Holds (word-is bytes word) = word-of bytes ≡ word
@@ -150,11 +154,11 @@ abbrev row : (number : ℕ) → (claims : List Claim) → Example
 row n cs = record { number = n; claims = cs }
 
 -- buffers for the tables of these lengths, and of none
-abbrev room : (order delta2 delta1 : ℕ) → TableLengths
-room o d2 d1 = record { order = o; delta2 = d2; delta1 = d1 }
+abbrev room : (order delta2 delta1 delta3 : ℕ) → TableLengths
+room o d2 d1 d3 = record { order = o; delta2 = d2; delta1 = d1; delta3 = d3 }
 
 abbrev no-room : TableLengths
-no-room = room 0 0 0
+no-room = room 0 0 0 0
 
 -- an answer by its fields: the number, the finds, the looks, the holes, p and the bound
 abbrev answer : (status h C ones p bound : ℕ) → Answer
@@ -182,12 +186,28 @@ write-answered s l = record { answer = zeros-beside s; bytes = l }
 abbrev report-answered : (status bytes : ℕ) → ReportAnswer
 report-answered s l = record { answer = zeros-beside s; bytes = l }
 
--- buffers for the tables of a pattern of one byte, and one entry more in each: before a call, and with its tables
+-- buffers for the tables of these lengths before a call
+abbrev lent : TableLengths → Tables
+lent l = tables (replicate (l .order) (pos 9)) (replicate (l .delta2) 9) (replicate (l .delta1) 9) (replicate (l .delta3) 9)
+
+-- those for a pattern of one byte, and one entry more in each: before a call, and with its tables
 abbrev lent-to-one : Tables
-lent-to-one = tables (pos 9 ∷ pos 9 ∷ pos 9 ∷ []) (9 ∷ 9 ∷ 9 ∷ []) (replicate 257 9)
+lent-to-one = lent (room 3 3 257 2)
 
 abbrev left-by-one : Tables
-left-by-one = tables (pos 0 ∷ negsuc 0 ∷ pos 9 ∷ []) (0 ∷ 1 ∷ 9 ∷ []) (replicate 256 1 ++ (9 ∷ []))
+left-by-one = tables (pos 0 ∷ negsuc 0 ∷ pos 9 ∷ []) (0 ∷ 1 ∷ 9 ∷ []) (replicate 256 1 ++ (9 ∷ [])) (0 ∷ 9 ∷ [])
+
+-- the same with the tables of a c, and of a c a c a c, which repeats
+abbrev left-by-ac : Tables
+left-by-ac =
+    tables (pos 1 ∷ pos 0 ∷ negsuc 0 ∷ pos 9 ∷ []) (0 ∷ 2 ∷ 2 ∷ 9 ∷ []) (replicate 12 2 ++ (1 ∷ 1 ∷ []) ++ replicate 498 2 ++ (9 ∷ []))
+    (0 ∷ 0 ∷ 9 ∷ [])
+
+abbrev left-by-acacac : Tables
+left-by-acacac =
+    tables (pos 5 ∷ pos 0 ∷ pos 1 ∷ pos 2 ∷ pos 3 ∷ pos 4 ∷ negsuc 0 ∷ pos 9 ∷ []) (0 ∷ 2 ∷ 2 ∷ 4 ∷ 4 ∷ 6 ∷ 2 ∷ 9 ∷ [])
+    (replicate 36 6 ++ (5 ∷ 5 ∷ 3 ∷ 3 ∷ 1 ∷ 1 ∷ []) ++ replicate 102 6 ++ replicate 6 2 ++ replicate 1386 6 ++ (9 ∷ []))
+    (0 ∷ 0 ∷ 0 ∷ 0 ∷ 6 ∷ 0 ∷ 9 ∷ [])
 
 abbrev aacaa : List ℕ
 aacaa = a ∷ a ∷ c ∷ a ∷ a ∷ []
@@ -206,6 +226,28 @@ aaaa = a ∷ a ∷ a ∷ a ∷ []
 
 abbrev aac : List ℕ
 aac = a ∷ a ∷ c ∷ []
+
+-- a pattern with m = 3 × p
+abbrev acacac : List ℕ
+acacac = a ∷ c ∷ a ∷ c ∷ a ∷ c ∷ []
+
+-- document 02's pattern that repeats, and a text of two copies that share a byte
+abbrev aacaacaacaa : List ℕ
+aacaacaacaa = aac ++ aac ++ aac ++ (a ∷ a ∷ [])
+
+abbrev two-sharing-one : List ℕ
+two-sharing-one = aac ++ aac ++ aac ++ (a ∷ aacaacaacaa)
+
+-- patterns that repeat: one in which the shift out of a repeat matters to the next first comparison that differs, and one of period 4
+abbrev acaacaacaac : List ℕ
+acaacaacaac = a ∷ c ∷ a ∷ a ∷ c ∷ a ∷ a ∷ c ∷ a ∷ a ∷ c ∷ []
+
+abbrev accaaccaaccaacc : List ℕ
+accaaccaaccaacc = (a ∷ c ∷ c ∷ a ∷ []) ++ (a ∷ c ∷ c ∷ a ∷ []) ++ (a ∷ c ∷ c ∷ a ∷ []) ++ (a ∷ c ∷ c ∷ [])
+
+-- a comparison (look), by its pattern position (motif place) and its text position (chain place)
+abbrev pair : (i x : ℕ) → Comparison
+pair i x = record { pattern-position = i; text-position = x }
 
 -- the listing of "What SEEK prints": its text (chain), the job file, and what is printed
 abbrev listing : List ℕ
@@ -250,10 +292,10 @@ examples =
     ∷ row 5 (occurrences-are aacaa [] [] ∷ comparisons-are aacaa [] 0 ∷ [])
     -- 6. Motif a, chain a: find 0, C 1
     ∷ row 6 (occurrences-are (a ∷ []) (a ∷ []) (0 ∷ []) ∷ comparisons-are (a ∷ []) (a ∷ []) 1 ∷ [])
-    -- 7. Motif a a a a, chain of six a: finds 0, 1, 2, C 12
+    -- 7. Motif a a a a, chain of six a: finds 0, 1, 2; by document 02, "Long repeats", C 6
     ∷ row 7
     (occurrences-are aaaa (replicate 6 a) (0 ∷ 1 ∷ 2 ∷ [])
-    ∷ comparisons-are aaaa (replicate 6 a) 12
+    ∷ comparisons-are aaaa (replicate 6 a) 6
     ∷ [])
     -- 8. Motif a, chain a c a: finds 0 and 2, C 3
     ∷ row 8
@@ -344,13 +386,14 @@ examples =
     ∷ reporting-gives 5 4 7
     ∷ reporting-gives 5 5 0
     ∷ [])
-    -- Needed: m + 1 entries each for order and Δ2, 256 × m for Δ1
+    -- Needed: m + 1 entries each for order and Δ2, 256 × m for Δ1; document 02: m for Δ3
     ∷ row 16
-    (needed-are 1 (room 2 2 256)
-    ∷ preparing-gives 1 (room 1 2 256) 7
-    ∷ preparing-gives 1 (room 2 1 256) 7
-    ∷ preparing-gives 1 (room 2 2 255) 7
-    ∷ preparing-gives 1 (room 2 2 256) 0
+    (needed-are 1 (room 2 2 256 1)
+    ∷ preparing-gives 1 (room 1 2 256 1) 7
+    ∷ preparing-gives 1 (room 2 1 256 1) 7
+    ∷ preparing-gives 1 (room 2 2 255 1) 7
+    ∷ preparing-gives 1 (room 2 2 256 0) 7
+    ∷ preparing-gives 1 (room 2 2 256 1) 0
     ∷ [])
     -- What a call does not work out is 0: of finds, looks and holes preparing works out none, searching h and C, converting all three, counting only
     -- the holes. Turned away, an answer holds the refusal and zeros elsewhere
@@ -496,11 +539,12 @@ examples =
     ∷ pricing-gives 1 4294967295 16385 no-room 0 5
     ∷ pricing-gives 1 0 16385 no-room 0 6
     ∷ pricing-gives 1 0 1 no-room 0 7
-    ∷ pricing-gives 1 0 1 (room 1 2 256) 1 7
-    ∷ pricing-gives 1 0 1 (room 2 1 256) 1 7
-    ∷ pricing-gives 1 0 1 (room 2 2 255) 1 7
-    ∷ pricing-gives 1 0 1 (room 2 2 256) 0 7
-    ∷ pricing-gives 1 0 1 (room 2 2 256) 1 0
+    ∷ pricing-gives 1 0 1 (room 1 2 256 1) 1 7
+    ∷ pricing-gives 1 0 1 (room 2 1 256 1) 1 7
+    ∷ pricing-gives 1 0 1 (room 2 2 255 1) 1 7
+    ∷ pricing-gives 1 0 1 (room 2 2 256 0) 1 7
+    ∷ pricing-gives 1 0 1 (room 2 2 256 1) 0 7
+    ∷ pricing-gives 1 0 1 (room 2 2 256 1) 1 0
     ∷ [])
     -- A word of eight cards, and the holes of one card more
     ∷ row 27
@@ -510,11 +554,11 @@ examples =
     ∷ ones-are (0x01 ∷ 0x02 ∷ 0x03 ∷ 0x04 ∷ 0x05 ∷ 0x06 ∷ 0x07 ∷ 0x08 ∷ 0x09 ∷ []) 15
     ∷ [])
     -- Document 02, "Write out the period and the bound": searching and converting work out p and the bound, preparing only p. The bound is 0 for n
-    -- below m, where p is given too. A job turned away has zeros there
+    -- below m, where p is given too. A job turned away has zeros there. For m at least 3 × p the bound is that of "Long repeats"
     ∷ row 28
     (answers-are (answered 0 (prepare-done cbaaa)) (answer 0 0 0 0 5 0)
     ∷ answers-are (answered 4 (prepare-done [])) (zeros-beside 4)
-    ∷ answers-are (answered 0 (search-done aaaa (replicate 6 a))) (answer 0 3 12 0 1 14)
+    ∷ answers-are (answered 0 (search-done aaaa (replicate 6 a))) (answer 0 3 6 0 1 8)
     ∷ answers-are (answered 0 (search-done cbaaa cbaaa)) (answer 0 1 5 0 5 5)
     ∷ answers-are (answered 0 (search-done aaaa (replicate 3 a))) (answer 0 0 0 0 1 0)
     ∷ answers-are (answered 0 (convert-done aacaa [])) (answer 0 0 0 0 3 0)
@@ -523,8 +567,8 @@ examples =
     ∷ bound-is (a ∷ a ∷ []) (replicate 5 c) 8
     ∷ bound-is (a ∷ a ∷ []) (replicate 5 a) 8
     ∷ bound-is (a ∷ a ∷ a ∷ []) (replicate 5 c) 7
-    ∷ bound-is (a ∷ a ∷ a ∷ []) (replicate 5 a) 10
-    ∷ bound-is (a ∷ a ∷ a ∷ []) (replicate 3 a) 4
+    ∷ bound-is (a ∷ a ∷ a ∷ []) (replicate 5 a) 7
+    ∷ bound-is (a ∷ a ∷ a ∷ []) (replicate 3 a) 3
     ∷ bound-is (a ∷ a ∷ a ∷ []) (a ∷ a ∷ c ∷ []) 3
     ∷ bound-is (c ∷ []) cac 5
     ∷ bound-is acaca (a ∷ c ∷ acaca) 11
@@ -551,6 +595,54 @@ examples =
     ∷ reporting-leaves "0101000000\n18\n" (replicate 38 9) (bytes "0000\n00000000\n00000000\n0001\n00000000\n" ++ (9 ∷ [])) (report-answered 0 37)
     ∷ reporting-leaves "0101000000\n18\n" (replicate 36 9) (replicate 36 9) (report-answered 7 0)
     ∷ reporting-leaves "" (replicate 6 9) (bytes "FF01\n" ++ (9 ∷ [])) (report-answered 0 5)
+    ∷ [])
+    -- Document 02, "Long repeats": for a a c a a c a a c a a (p 3) Δ3(9) is 7; in a chain of 21 cards made of two copies sharing one card 10 is a find
+    ∷ row 30
+    (period-is aacaacaacaa 3
+    ∷ stored-Δ3-is aacaacaacaa (replicate 8 0 ++ (9 ∷ 7 ∷ 0 ∷ []))
+    ∷ occurrences-are aacaacaacaa two-sharing-one (0 ∷ 10 ∷ [])
+    ∷ comparisons-are aacaacaacaa two-sharing-one 24
+    ∷ bound-is aacaacaacaa two-sharing-one 31
+    ∷ [])
+    -- Δ3(i) goes into entry i of a lent buffer of m entries, under 7, with 0 wherever it is not defined; it is defined for i from m - p to m - 2
+    -- where m is at least 3 × p
+    ∷ row 31
+    (stored-Δ3-is acacac (0 ∷ 0 ∷ 0 ∷ 0 ∷ 6 ∷ 0 ∷ [])
+    ∷ stored-Δ3-is acaca (replicate 5 0)
+    ∷ stored-Δ3-is aaaa (replicate 4 0)
+    ∷ preparing-leaves acacac (lent (room 8 8 1537 7)) left-by-acacac (answer 0 0 0 0 2 0)
+    ∷ preparing-leaves (a ∷ c ∷ []) (lent (room 4 4 513 3)) left-by-ac (answer 0 0 0 0 2 0)
+    ∷ preparing-leaves acacac (lent (room 7 7 1536 5)) (lent (room 7 7 1536 5)) (zeros-beside 7)
+    ∷ searching-gives 6 1 (room 7 7 1536 5) 1 7
+    ∷ searching-gives 6 1 (room 7 7 1536 6) 1 0
+    ∷ converting-gives 6 0 1 (room 7 7 1536 5) 1 1 7
+    ∷ converting-gives 6 0 1 (room 7 7 1536 6) 1 1 0
+    ∷ [])
+    -- Where m is at least 3 × p, a find moves on by p and only places m - 1 down to m - p are looked at. If m - 1 differs, the shift is Δ1(card, p);
+    -- if a lower place does, Δ3; the ordinary steps go on with that shift as s. Shorter motifs are looked at whole
+    ∷ row 32
+    (answers-are (answered 0 (search-done acacac (a ∷ c ∷ a ∷ c ∷ acacac))) (answer 0 3 10 0 2 14)
+    ∷ occurrences-are acacac (acacac ++ (c ∷ acacac)) (0 ∷ 7 ∷ [])
+    ∷ answers-are (answered 0 (search-done acacac (acacac ++ (c ∷ acacac)))) (answer 0 2 13 0 2 20)
+    ∷ answers-are (answered 0 (search-done acacac (acacac ++ (a ∷ a ∷ acacac)))) (answer 0 2 14 0 2 22)
+    ∷ occurrences-are acacac (acacac ++ (c ∷ c ∷ a ∷ acacac)) (0 ∷ 9 ∷ [])
+    ∷ answers-are (answered 0 (search-done acacac (acacac ++ (c ∷ c ∷ a ∷ acacac)))) (answer 0 2 15 0 2 24)
+    ∷ answers-are (answered 0 (search-done (a ∷ a ∷ a ∷ []) (a ∷ a ∷ a ∷ c ∷ a ∷ a ∷ a ∷ []))) (answer 0 2 7 0 1 11)
+    ∷ comparisons-are (a ∷ a ∷ a ∷ []) (replicate 5 a) 5
+    ∷ comparisons-are (a ∷ a ∷ []) (replicate 5 a) 8
+    ∷ comparisons-are acaca (a ∷ c ∷ acaca) 10
+    ∷ seek-prints "0103000005\n06\n06\n06\n06\n06\n06\n06\n06\n" "0003\n00000005\n0000000A\n0001\n00000007\n0000\n0001\n0002\n0100\n0100\n0100\n0006\n0006\n"
+    ∷ [])
+    -- The looks themselves, in their order: after a find only m - 1 down to m - p. Each shift is the s of the next step, out of a repeat (Δ1 and
+    -- Δ3) and in the ordinary steps (after a find, Δ2 and Δ1)
+    ∷ row 33
+    (comparisons-in-order (aac ++ aac ++ aac) (aac ++ aac ++ aac ++ aac)
+    (pair 8 8 ∷ pair 0 0 ∷ pair 1 1 ∷ pair 2 2 ∷ pair 3 3 ∷ pair 4 4 ∷ pair 5 5 ∷ pair 6 6 ∷ pair 7 7 ∷ pair 8 11 ∷ pair 7 10 ∷ pair 6 9 ∷ [])
+    ∷ comparisons-in-order acaca (replicate 6 a ++ (c ∷ a ∷ a ∷ c ∷ a ∷ [])) (pair 4 4 ∷ pair 0 0 ∷ pair 1 1 ∷ pair 4 6 ∷ pair 4 9 ∷ [])
+    ∷ answers-are (answered 0 (search-done acaacaacaac (acaacaacaac ++ (a ∷ a ∷ acaacaacaac) ++ (c ∷ a ∷ c ∷ acaacaacaac))))
+    (answer 0 3 39 0 3 65)
+    ∷ comparisons-are acaca (acaca ++ (a ∷ c ∷ replicate 6 a) ++ (c ∷ c ∷ a ∷ [])) 13
+    ∷ stored-Δ3-is accaaccaaccaacc (replicate 11 0 ++ (12 ∷ 15 ∷ 13 ∷ 0 ∷ []))
     ∷ [])
     ∷ []
 

@@ -11,20 +11,20 @@ use Rattle.converter.proofs.convert.Tie as tie
 
 -- the way back from a place of the code to an earlier one
 abbrev start : tie.Else1 → tie.Start
-start c = c .before .before .before .before .before .before .before .before
+start c = c .before .before .before .before .before .before .before .before .before
 
-abbrev measured : tie.After-search-within-arg4 → tie.Else1
-measured c = c .before .before .before .before
+abbrev measured : tie.After-search-within-arg5 → tie.Else1
+measured c = c .before .before .before .before .before
 
 abbrev searched : tie.After-write-frames-arg2 → tie.After-search-within
-searched c = c .before .before .before .before .before .before .before .before .before
+searched c = c .before .before .before .before .before .before .before .before .before .before .before
 
 returns : tie.Need-returns
 returns c = rw (c .status-only .ensures, ← status-is, ← c .before .before .status .ensures) (refused _ (c .before .if1 .taken))
 
 -- the conversion is taken
 fit :
-    (c : tie.Else1) → let a = start c .args in let x = tables (a .order .now) (a .delta2 .now) (a .delta1 .now) in
+    (c : tie.Else1) → let a = start c .args in let x = tables (a .order .now) (a .delta2 .now) (a .delta1 .now) (a .delta3 .now) in
     Conversion-taken (length (a .pattern .now)) (a .hold-offset) (length (a .text .now)) (lengths x) (length (a .found .now))
     (length (a .frames .now))
 fit c = conversion-taken (sym (c .before .status .ensures ∙ status-is _ _ _ _ _ _) ∙ c .if1 .left)
@@ -46,6 +46,7 @@ convert-spec =
     returns
     (λ c κs. search-taken (fit (measured c)))
     (λ c κs. let at = searched c in frames-ready (fit (measured (at .before))) (at .search-within .ensures))
+    (λ c. search needs)
     (λ c. search needs)
     (λ c. search needs)
     (λ c. search needs)

@@ -7,8 +7,8 @@ use Rattle.matcher.proofs.search.Statement.{statement}
 use Rattle.matcher.proofs.search.Tie as tie
 
 -- the way back to the measuring
-abbrev measured : tie.After-search-within-arg4 → tie.Else1
-measured c = c .before .before .before .before
+abbrev measured : tie.After-search-within-arg5 → tie.Else1
+measured c = c .before .before .before .before .before
 
 returns : tie.Need-returns
 returns c = rw (c .status-only .ensures, ← status-is, ← c .before .before .status .ensures) (refused _ (c .before .if1 .taken))
@@ -26,6 +26,7 @@ search-spec =
     (λ c κs. tt)
     returns
     search-within-requires
+    (λ c. search needs)
     (λ c. search needs)
     (λ c. search needs)
     (λ c. search needs)

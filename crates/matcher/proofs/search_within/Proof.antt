@@ -8,19 +8,19 @@ use Rattle.matcher.proofs.search_within.Tie as tie
 use Rattle.tables.specs.Buffers.{tables}
 
 -- the way back from a place of the code to an earlier one
-abbrev start : tie.After-write-tables-arg3 → tie.Start
-start c = c .before .before .before .before .before .before .before .before
+abbrev start : tie.After-write-tables-arg4 → tie.Start
+start c = c .before .before .before .before .before .before .before .before .before .before
 
-abbrev written : tie.After-run-steps-arg4 → tie.After-write-tables
-written c = c .before .before .before .before .before .before .before .before .before
+abbrev written : tie.After-run-steps-arg5 → tie.After-write-tables
+written c = c .before .before .before .before .before .before .before .before .before .before .before .before
 
-abbrev ran : tie.After-slice-known6 → tie.After-run-steps
+abbrev ran : tie.After-slice-known8 → tie.After-run-steps
 ran c = c .before .before
 
 -- the search is taken
 fit :
-    (c : tie.After-write-tables-arg3) → let a = start c .args in
-    Search-fit (a .pattern .now) (a .text .now) (tables (a .order .now) (a .delta2 .now) (a .delta1 .now)) (a .found .now)
+    (c : tie.After-write-tables-arg4) → let a = start c .args in
+    Search-fit (a .pattern .now) (a .text .now) (tables (a .order .now) (a .delta2 .now) (a .delta1 .now) (a .delta3 .now)) (a .found .now)
 fit c = search-fit (start c .pre)
 
 run-steps-requires : tie.Need-run-steps-requires
@@ -49,6 +49,7 @@ search-within-spec =
     (λ c. omega (arith, fit (written (ran c .before) .before)))
     comparison-bound-requires
     (λ c κs. search needs)
+    (λ c. search needs)
     (λ c. search needs)
     (λ c. search needs)
     (λ c. search needs)

@@ -7,11 +7,11 @@ use Rattle.prepare.proofs.prepare.Statement.{statement}
 use Rattle.prepare.proofs.prepare.Tie as tie
 
 -- the way back from a place of the code to an earlier one
-abbrev measured : tie.After-write-tables-arg3 → tie.Else1
-measured c = c .before .before .before
+abbrev measured : tie.After-write-tables-arg4 → tie.Else1
+measured c = c .before .before .before .before
 
 abbrev written : tie.After-prepared → tie.After-write-tables
-written c = c .before .before .before .before .before .before
+written c = c .before .before .before .before .before .before .before .before
 
 returns : tie.Need-returns
 returns c = rw (c .status-only .ensures, ← status-is, ← c .before .before .status .ensures) (refused _ (c .before .if1 .taken))
@@ -36,6 +36,7 @@ prepare-spec =
     returns
     write-tables-requires
     (λ c κs. tt)
+    (λ c. search needs)
     (λ c. search needs)
     (λ c. search needs)
     (λ c. search needs)

@@ -9,24 +9,25 @@ use Rattle.tables.proofs.Rooms.{period-written}
 use Rattle.tables.specs.Buffers.{tables, Tables-written}
 
 -- the way back from a place of the code to an earlier one
-abbrev start : tie.After-write-order-and-delta2 → tie.Start
-start c = c .before .before .before .before .before .before
+abbrev start : tie.After-write-order-and-shifts → tie.Start
+start c = c .before .before .before .before .before .before .before .before
 
-abbrev delta1-written : tie.After-slice-known5 → tie.After-write-delta1
+abbrev delta1-written : tie.After-slice-known7 → tie.After-write-delta1
 delta1-written c = c .before .before .before
 
-abbrev others-written : tie.After-write-delta1 → tie.After-write-order-and-delta2
-others-written c = c .before .before .before .before .before
+abbrev others-written : tie.After-write-delta1 → tie.After-write-order-and-shifts
+others-written c = c .before .before .before .before .before .before .before
 
 returns : tie.Need-returns
 returns c =
     let last = delta1-written c in
     let first = others-written last in
     let a = start first .args in
-    let all : Tables-written (a .pattern .now) (tables (a .order .now) (a .delta2 .now) (a .delta1 .now)) (tables _ _ _) = record {
-      order = first .write-order-and-delta2 .ensures .0;
-      delta2 = first .write-order-and-delta2 .ensures .1;
+    let all : Tables-written (a .pattern .now) (tables (a .order .now) (a .delta2 .now) (a .delta1 .now) (a .delta3 .now)) (tables _ _ _ _) = record {
+      order = first .write-order-and-shifts .ensures .0;
+      delta2 = first .write-order-and-shifts .ensures .1 .0;
       delta1 = last .write-delta1 .ensures;
+      delta3 = first .write-order-and-shifts .ensures .1 .1;
     } in
     (period-written (start first .pre .taken) all, all)
 
@@ -38,7 +39,8 @@ write-tables-spec =
     (λ c κs. search needs)
     (λ c. search needs)
     (λ c. search needs)
-    (λ c. omega (arith, c .slice-known5 .given (length (start (others-written (delta1-written c)) .args .pattern .now))))
+    (λ c. omega (arith, c .slice-known7 .given (length (start (others-written (delta1-written c)) .args .pattern .now))))
+    (λ c. search needs)
     (λ c. search needs)
     (λ c. search needs)
     (λ c. search needs)

@@ -13,21 +13,21 @@ use Rattle.price.proofs.price.Tie as tie
 
 -- the way back from a place of the code to an earlier one
 abbrev start : tie.Else1 → tie.Start
-start c = c .before .before .before .before .before .before .before
+start c = c .before .before .before .before .before .before .before .before
 
-abbrev measured : tie.After-search-within-arg4 → tie.Else1
-measured c = c .before .before .before .before
+abbrev measured : tie.After-search-within-arg5 → tie.Else1
+measured c = c .before .before .before .before .before
 
 abbrev searched : tie.After-status-only2 → tie.After-search-within
-searched c = c .before .before .before .before .before .before .before .before
+searched c = c .before .before .before .before .before .before .before .before .before .before
 
 -- the text is one of bytes
 bytes : (c : tie.Else1) → Bytes (start c .args .text .now)
-bytes c = each-byte (start c .args .text .now) (λ i l. c .before .before .before .before .before .shared-slice-known2 .given i .fits)
+bytes c = each-byte (start c .args .text .now) (λ i l. c .before .before .before .before .before .before .shared-slice-known2 .given i .fits)
 
 -- the job is priced
 fit :
-    (c : tie.Else1) → let a = start c .args in let x = tables (a .order .now) (a .delta2 .now) (a .delta1 .now) in
+    (c : tie.Else1) → let a = start c .args in let x = tables (a .order .now) (a .delta2 .now) (a .delta1 .now) (a .delta3 .now) in
     Conversion-taken (length (a .pattern .now)) (a .hold-offset) (length (a .text .now)) (lengths x) (length (a .found .now))
     (length (a .text .now))
 fit c = price-taken (sym (c .before .status .ensures ∙ status-is _ _ _ _ _) ∙ c .if1 .left)
@@ -52,6 +52,7 @@ price-spec =
     (λ c κs. search-taken (fit (measured c)))
     (λ c κs. search needs)
     (λ c κs. let at = searched c in countable (fit (measured (at .before))) (at .search-within .ensures))
+    (λ c. search needs)
     (λ c. search needs)
     (λ c. search needs)
     (λ c. search needs)

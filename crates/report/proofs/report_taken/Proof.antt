@@ -19,10 +19,10 @@ use Rattle.report.proofs.report_taken.Tie as tie
 
 -- the way back from a place of the code to an earlier one
 abbrev start : tie.After-found → tie.Start
-start c = c .before .before .before .before .before .before .before
+start c = c .before .before .before .before .before .before .before .before
 
 abbrev searched : tie.After-frames → tie.After-search-within
-searched c = c .before .before .before .before .before .before
+searched c = c .before .before .before .before .before .before .before
 
 abbrev written : tie.After-struct-known → tie.After-write-frames
 written c = c .before .before
@@ -35,10 +35,10 @@ abbrev zeros : ℕ → List ℕ
 zeros n = replicate n 0
 
 abbrev lent : Tables
-lent = tables (replicate 129 (pos 0)) (zeros 129) (zeros 32768)
+lent = tables (replicate 129 (pos 0)) (zeros 129) (zeros 32768) (zeros 128)
 
 abbrev found : tie.After-search-within → List ℕ
-found c = c .search-within .last .1 .1 .1 .1 .1 .0
+found c = c .search-within .last .1 .1 .1 .1 .1 .1 .0
 
 abbrev frames : tie.After-write-frames → List ℕ
 frames c = c .write-frames .last .1 .1 .1 .1 .0
@@ -88,6 +88,7 @@ report-taken-spec =
     (λ c. sym (length-replicate 129 (pos 0)))
     (λ c. zeros-length 129)
     (λ c. zeros-length 32768)
+    (λ c. zeros-length 128)
     (λ c. zeros-length 16384)
     (λ c κs. search-taken (fit c))
     (λ c. search needs)
