@@ -46,6 +46,8 @@ mod foreign {
             delta2_length: usize,
             delta1: *mut u16,
             delta1_length: usize,
+            delta3: *mut u16,
+            delta3_length: usize,
         ) -> Answer;
 
         pub fn search(
@@ -59,6 +61,8 @@ mod foreign {
             delta2_length: usize,
             delta1: *mut u16,
             delta1_length: usize,
+            delta3: *mut u16,
+            delta3_length: usize,
             found: *mut u16,
             found_length: usize,
         ) -> Answer;
@@ -75,6 +79,8 @@ mod foreign {
             delta2_length: usize,
             delta1: *mut u16,
             delta1_length: usize,
+            delta3: *mut u16,
+            delta3_length: usize,
             found: *mut u16,
             found_length: usize,
             frames: *mut u16,
@@ -125,6 +131,8 @@ mod foreign {
             delta2_length: usize,
             delta1: *mut u16,
             delta1_length: usize,
+            delta3: *mut u16,
+            delta3_length: usize,
             found: *mut u16,
             found_length: usize,
         ) -> PriceAnswer;
@@ -165,6 +173,7 @@ pub fn prepare(
     order: &mut [i16],
     delta2: &mut [u16],
     delta1: &mut [u16],
+    delta3: &mut [u16],
 ) -> Answer {
     // SAFETY: each pointer and length is that of a slice that stays borrowed during the call.
     unsafe {
@@ -177,6 +186,8 @@ pub fn prepare(
             delta2.len(),
             delta1.as_mut_ptr(),
             delta1.len(),
+            delta3.as_mut_ptr(),
+            delta3.len(),
         )
     }
 }
@@ -187,6 +198,7 @@ pub fn search(
     order: &mut [i16],
     delta2: &mut [u16],
     delta1: &mut [u16],
+    delta3: &mut [u16],
     found: &mut [u16],
 ) -> Answer {
     // SAFETY: each pointer and length is that of a slice that stays borrowed during the call.
@@ -202,6 +214,8 @@ pub fn search(
             delta2.len(),
             delta1.as_mut_ptr(),
             delta1.len(),
+            delta3.as_mut_ptr(),
+            delta3.len(),
             found.as_mut_ptr(),
             found.len(),
         )
@@ -216,6 +230,7 @@ pub fn convert(
     order: &mut [i16],
     delta2: &mut [u16],
     delta1: &mut [u16],
+    delta3: &mut [u16],
     found: &mut [u16],
     frames: &mut [u16],
 ) -> Answer {
@@ -233,6 +248,8 @@ pub fn convert(
             delta2.len(),
             delta1.as_mut_ptr(),
             delta1.len(),
+            delta3.as_mut_ptr(),
+            delta3.len(),
             found.as_mut_ptr(),
             found.len(),
             frames.as_mut_ptr(),
@@ -291,6 +308,7 @@ pub fn restore(hold_offset: u32, pattern: &[u8], frames: &[u16], text: &mut [u8]
     }
 }
 
+#[allow(clippy::too_many_arguments)]
 pub fn price(
     hold_offset: u32,
     pattern: &[u8],
@@ -298,6 +316,7 @@ pub fn price(
     order: &mut [i16],
     delta2: &mut [u16],
     delta1: &mut [u16],
+    delta3: &mut [u16],
     found: &mut [u16],
 ) -> PriceAnswer {
     // SAFETY: each pointer and length is that of a slice that stays borrowed during the call.
@@ -314,6 +333,8 @@ pub fn price(
             delta2.len(),
             delta1.as_mut_ptr(),
             delta1.len(),
+            delta3.as_mut_ptr(),
+            delta3.len(),
             found.as_mut_ptr(),
             found.len(),
         )

@@ -108,6 +108,7 @@ pub struct TableLengths {
     pub order: usize,
     pub delta1: usize,
     pub delta2: usize,
+    pub delta3: usize,
 }
 
 impl TableLengths {
@@ -117,6 +118,7 @@ impl TableLengths {
             order: m + 1,
             delta1: 256 * m,
             delta2: m + 1,
+            delta3: m,
         }
     }
 
@@ -124,7 +126,8 @@ impl TableLengths {
         let needed = TableLengths::needed(m);
         check_buffer(self.order, needed.order)?;
         check_buffer(self.delta1, needed.delta1)?;
-        check_buffer(self.delta2, needed.delta2)
+        check_buffer(self.delta2, needed.delta2)?;
+        check_buffer(self.delta3, needed.delta3)
     }
 }
 
@@ -136,6 +139,7 @@ pub struct Outcome {
     pub order: Vec<i16>,
     pub delta1: Vec<usize>,
     pub delta2: Vec<usize>,
+    pub delta3: Vec<usize>,
     pub occurrences: Vec<usize>,
     pub frames: Vec<u16>,
 }
@@ -172,6 +176,7 @@ fn try_prepare(pattern: &[u8], lengths: TableLengths) -> Result<Outcome, Refusal
         order: tables.order,
         delta1: tables.delta1,
         delta2: tables.delta2,
+        delta3: tables.delta3,
         ..Outcome::default()
     })
 }
@@ -211,6 +216,7 @@ fn try_search(
         order: tables.order,
         delta1: tables.delta1,
         delta2: tables.delta2,
+        delta3: tables.delta3,
         occurrences,
         frames: Vec::new(),
     })

@@ -1,5 +1,5 @@
-//! A plain model of document 01 and of document 02's requests U1, U2, U3 and U5, written from these
-//! documents alone; U4 changes no answer.
+//! A plain model of document 01 and of document 02's requests U1, U2, U3, U5 and U6, written from
+//! these documents alone; U4 changes no answer.
 //!
 //! It follows the definitions word by word and takes no short cuts: the tables by their sets, the
 //! occurrences by their meaning, the search by its steps with every comparison written down, a

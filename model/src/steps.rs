@@ -27,45 +27,103 @@ pub fn search(pattern: &[u8], text: &[u8]) -> Search {
 
 /// Runs the steps with the tables of the pattern, for one who has them at hand.
 pub fn search_with(tables: &Tables, pattern: &[u8], text: &[u8]) -> Search {
-    let m = pattern.len();
-    let n = text.len();
-    let mut done = Search::default();
-    let mut b = 0;
-    let mut s = m;
+    let (m, n) = (pattern.len(), text.len());
+    let mut run = Run {
+        tables,
+        pattern,
+        text,
+        done: Search::default(),
+    };
+    let (mut b, mut s) = (0, m);
+    let mut is_repeat = false;
     while b + m <= n {
-        if compare(pattern, text, b, m - 1, &mut done) {
-            let mut i = 2;
-            while i <= m && compare(pattern, text, b, tables.h(i), &mut done) {
-                i += 1;
-            }
-            if i == m + 1 {
-                done.occurrences.push(b);
-            }
-            s = tables.delta2(i);
+        let outcome = if is_repeat {
+            run.repeat_alignment(b)
         } else {
-            s = tables.delta1(text[b + m - 1], s);
+            run.ordinary_alignment(b, s)
+        };
+        if outcome.occurs {
+            run.done.occurrences.push(b);
         }
+        is_repeat = outcome.occurs && tables.is_long_repeat();
+        s = outcome.shift;
         b += s;
     }
-    done
+    run.done
 }
 
-/// Compares w(i) with t(b + i), writes the comparison down, and tells whether they agree.
-fn compare(pattern: &[u8], text: &[u8], b: usize, i: usize, done: &mut Search) -> bool {
-    done.comparisons.push(Comparison {
-        pattern_position: i,
-        text_position: b + i,
-    });
-    pattern[i] == text[b + i]
+/// What comes of an alignment.
+struct Outcome {
+    /// Whether all comparisons agreed.
+    occurs: bool,
+    /// How far the next alignment is.
+    shift: usize,
 }
 
-/// The bound of demand 3 on the comparisons of a search with h occurrences: 2 n less m, and for
-/// each occurrence what the pattern has beyond twice its period. A text that is shorter than the
-/// pattern has no comparisons, and the bound is 0.
+/// A search under way.
+struct Run<'a> {
+    tables: &'a Tables,
+    pattern: &'a [u8],
+    text: &'a [u8],
+    done: Search,
+}
+
+impl Run<'_> {
+    /// The steps of document 01 at b, with the last shift s: m - 1 is compared, then h(2), h(3) and
+    /// on, until one differs or all agree.
+    fn ordinary_alignment(&mut self, b: usize, s: usize) -> Outcome {
+        let m = self.pattern.len();
+        if !self.compare(b, m - 1) {
+            return Outcome {
+                occurs: false,
+                shift: self.tables.delta1(self.text[b + m - 1], s),
+            };
+        }
+        let mut i = 2;
+        while i <= m && self.compare(b, self.tables.h(i)) {
+            i += 1;
+        }
+        Outcome {
+            occurs: i == m + 1,
+            shift: self.tables.delta2(i),
+        }
+    }
+
+    /// The steps of document 02, "Long repeats", at b, where b - p is an occurrence: m - 1 down to
+    /// m - p are compared, until one differs or all agree.
+    fn repeat_alignment(&mut self, b: usize) -> Outcome {
+        let (m, p) = (self.pattern.len(), self.tables.period);
+        let differing = (m - p..m).rev().find(|&i| !self.compare(b, i));
+        Outcome {
+            occurs: differing.is_none(),
+            shift: match differing {
+                None => p,
+                Some(i) if i == m - 1 => self.tables.delta1(self.text[b + m - 1], p),
+                Some(i) => self.tables.delta3(i),
+            },
+        }
+    }
+
+    /// Compares w(i) with t(b + i), writes the comparison down, and tells whether they agree.
+    fn compare(&mut self, b: usize, i: usize) -> bool {
+        self.done.comparisons.push(Comparison {
+            pattern_position: i,
+            text_position: b + i,
+        });
+        self.pattern[i] == self.text[b + i]
+    }
+}
+
+/// The bound of demand 3 on the comparisons of a search with h occurrences: 2 n less m, and where m
+/// is below 3 p, for each occurrence what the pattern has beyond twice its period. A text that is
+/// shorter than the pattern has no comparisons, and the bound is 0.
 pub fn bound(tables: &Tables, n: usize, h: usize) -> usize {
-    if n < tables.m {
+    let m = tables.m;
+    if n < m {
         0
+    } else if tables.is_long_repeat() {
+        2 * n - m
     } else {
-        2 * n - tables.m + h * tables.m.saturating_sub(2 * tables.period)
+        2 * n - m + h * m.saturating_sub(2 * tables.period)
     }
 }

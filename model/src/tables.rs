@@ -46,6 +46,20 @@ pub fn delta1(w: &[u8], c: u8, s: usize) -> usize {
         .expect("m is in neither set")
 }
 
+/// Δ3(i), i from m - p to m - 2 where m is at least 3 p: the least k of 1 or more outside
+/// Pos(w(i), i), outside Neg(w(j), j) for j above i, and outside Neg(w(j), j) for j below m - p.
+pub fn delta3(w: &[u8], i: usize) -> usize {
+    let m = w.len();
+    let known = m - period(w);
+    (1..)
+        .find(|&k| {
+            !in_pos(w, w[i], i as isize, k)
+                && (i + 1..m).all(|j| !in_neg_of_own(w, j as isize, k))
+                && (0..known).all(|j| !in_neg_of_own(w, j as isize, k))
+        })
+        .expect("m is in none of the sets")
+}
+
 /// A table of 129 entries, all 0 to begin with, in which those of the range are filled.
 fn table_of_129(range: Range<usize>, entry: impl Fn(usize) -> usize) -> Vec<usize> {
     let filled = |index| {
@@ -77,6 +91,8 @@ pub struct Tables {
     pub delta2: Vec<usize>,
     /// Δ1(c, s) at c × m + s - 1.
     pub delta1: Vec<usize>,
+    /// Δ3(i) at i, for i from 0 to m - 1, and 0 wherever it is not defined.
+    pub delta3: Vec<usize>,
 }
 
 impl Tables {
@@ -121,6 +137,12 @@ impl Tables {
             }
         }
 
+        // Δ3 is defined for i from m - p to m - 2 where m is at least 3 p.
+        let is_defined = |i| m >= 3 * p && (m - p..m - 1).contains(&i);
+        let delta3s = (0..m)
+            .map(|i| if is_defined(i) { delta3(w, i) } else { 0 })
+            .collect();
+
         Tables {
             m,
             period: p,
@@ -130,7 +152,13 @@ impl Tables {
             order,
             delta2,
             delta1: delta1s,
+            delta3: delta3s,
         }
+    }
+
+    /// Whether the pattern is a long repeat: m is at least 3 p.
+    pub fn is_long_repeat(&self) -> bool {
+        self.m >= 3 * self.period
     }
 
     /// h(i), i from 1 to m: the pattern's position that is compared as the i-th.
@@ -146,5 +174,10 @@ impl Tables {
     /// Δ2(i), i from 2 to m + 1.
     pub fn delta2(&self, i: usize) -> usize {
         self.delta2[i - 1]
+    }
+
+    /// Δ3(i), i from m - p to m - 2 where m is at least 3 p.
+    pub fn delta3(&self, i: usize) -> usize {
+        self.delta3[i]
     }
 }

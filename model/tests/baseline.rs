@@ -11,6 +11,7 @@ use common::job_suite::JobCalls;
 use common::matcher_suite::MatcherCalls;
 use common::prepare_suite::PrepareCalls;
 use common::price_suite::PriceCalls;
+use common::repeats;
 use common::report_suite::ReportCalls;
 use common::restore_suite::RestoreCalls;
 use common::searches;
@@ -35,7 +36,13 @@ impl JobCalls for Baseline {
 
 impl PrepareCalls for Baseline {
     fn prepare(pattern: &[u8], tables: LentTables) -> Answer {
-        baseline::tables::prepare(pattern, tables.order, tables.delta2, tables.delta1)
+        let LentTables {
+            order,
+            delta2,
+            delta1,
+            delta3,
+        } = tables;
+        baseline::tables::prepare(pattern, order, delta2, delta1, delta3)
     }
 }
 
@@ -44,20 +51,25 @@ struct AsListed;
 
 impl PrepareCalls for AsListed {
     fn prepare(pattern: &[u8], tables: LentTables) -> Answer {
-        baseline::tables::prepare_as_listed(pattern, tables.order, tables.delta2, tables.delta1)
+        let LentTables {
+            order,
+            delta2,
+            delta1,
+            delta3,
+        } = tables;
+        baseline::tables::prepare_as_listed(pattern, order, delta2, delta1, delta3)
     }
 }
 
 impl MatcherCalls for Baseline {
     fn search(pattern: &[u8], text: &[u8], tables: LentTables, found: &mut [u16]) -> Answer {
-        baseline::matcher::search(
-            pattern,
-            text,
-            tables.order,
-            tables.delta2,
-            tables.delta1,
-            found,
-        )
+        let LentTables {
+            order,
+            delta2,
+            delta1,
+            delta3,
+        } = tables;
+        baseline::matcher::search(pattern, text, order, delta2, delta1, delta3, found)
     }
 }
 
@@ -74,8 +86,11 @@ impl ConverterCalls for Baseline {
             order,
             delta2,
             delta1,
+            delta3,
         } = tables;
-        baseline::converter::convert(hold, pattern, text, order, delta2, delta1, found, frames)
+        baseline::converter::convert(
+            hold, pattern, text, order, delta2, delta1, delta3, found, frames,
+        )
     }
 
     fn count_ones(text: &[u8]) -> Answer {
@@ -120,8 +135,9 @@ impl PriceCalls for Baseline {
             order,
             delta2,
             delta1,
+            delta3,
         } = tables;
-        baseline::price::price(hold, pattern, text, order, delta2, delta1, found)
+        baseline::price::price(hold, pattern, text, order, delta2, delta1, delta3, found)
     }
 }
 
@@ -138,6 +154,7 @@ mod prepare_as_listed {
         worked_examples,
         all_short_patterns,
         structured_patterns,
+        long_repeats,
         longest_patterns,
     );
 }
@@ -172,7 +189,8 @@ fn occurrences_alone() {
     let all = searches::short()
         .chain(searches::longer())
         .chain(searches::structured())
-        .chain(searches::about_as_long());
+        .chain(searches::about_as_long())
+        .chain(repeats::mixed());
     for (pattern, text) in all {
         let expected = entries(&convert::occurrences(&pattern, &text));
         let mut found = vec![0; text.len()];

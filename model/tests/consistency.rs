@@ -2,9 +2,9 @@
 
 mod common;
 
-use std::collections::BTreeMap;
+use std::collections::{BTreeMap, BTreeSet};
 
-use common::bounds;
+use common::{bounds, repeats};
 use ruffarmoire_model::answers::{Answer, Refusal};
 use ruffarmoire_model::calls::{self, TableLengths};
 use ruffarmoire_model::convert;
@@ -20,13 +20,14 @@ use ruffarmoire_model::turn::{
 };
 
 /// The bound of a search with h occurrences, once more: two comparisons for each position before the
-/// last where the pattern fits, a whole pattern there, and for each occurrence the bytes of the pattern
-/// past its first two periods.
+/// last where the pattern fits, a whole pattern there, and where the pattern has no three whole
+/// periods, for each occurrence its bytes past the first two.
 fn bound_by_parts(pattern: &[u8], n: usize, h: usize) -> usize {
     match n.checked_sub(pattern.len()) {
         Some(last) => {
-            let past = pattern.iter().skip(2 * period(pattern)).count();
-            2 * last + pattern.len() + h * past
+            let (m, p) = (pattern.len(), period(pattern));
+            let past = if m / p == 2 { m % p } else { 0 };
+            2 * last + m + h * past
         }
         None => 0,
     }
@@ -103,7 +104,7 @@ fn word(number: usize, base: usize, length: usize) -> Vec<u8> {
 
 #[test]
 fn all_short_texts_over_two_bytes() {
-    let mut met = [0; 6];
+    let (mut met, mut met_by_long_repeats) = ([0; 6], [0; 6]);
     for m in 1..=6 {
         for pattern_number in 0..1 << m {
             let pattern = word(pattern_number, 2, m);
@@ -112,12 +113,15 @@ fn all_short_texts_over_two_bytes() {
                 for text_number in 0..1 << n {
                     let done = check_search(&tables, &pattern, &word(text_number, 2, n));
                     let bound = bound(&tables, n, done.occurrences.len());
-                    met[m - 1] += usize::from(bound > 0 && done.comparisons.len() == bound);
+                    let is_met = bound > 0 && done.comparisons.len() == bound;
+                    met[m - 1] += usize::from(is_met);
+                    met_by_long_repeats[m - 1] += usize::from(is_met && tables.is_long_repeat());
                 }
             }
         }
     }
     assert_eq!(met, bounds::MET);
+    assert_eq!(met_by_long_repeats, bounds::MET_BY_LONG_REPEATS);
 }
 
 #[test]
@@ -178,17 +182,83 @@ fn largest_searches() {
     }
 }
 
-/// One byte throughout is the dearest text for its pattern: every alignment compares all, and m - 2
-/// comparisons more would meet the bound.
+/// Of one byte throughout, two bytes are compared whole at every alignment, and meet the bound. From
+/// three on, each position of the text is compared once.
 #[test]
 fn comparisons_of_one_byte_throughout() {
-    for m in [2, 5, 128] {
+    for m in [2, 3, 5, 128] {
         let (pattern, text) = (vec![7; m], vec![7; 300]);
         let tables = Tables::of(&pattern);
         let done = check_search(&tables, &pattern, &text);
-        assert_eq!(done.comparisons.len(), (300 - m + 1) * m);
+        assert_eq!(done.occurrences.len(), 300 - m + 1);
         let bound = bound(&tables, 300, done.occurrences.len());
-        assert_eq!(bound, done.comparisons.len() + m - 2);
+        if m == 2 {
+            assert_eq!(done.comparisons.len(), bound);
+        } else {
+            let positions = done.comparisons.iter().map(|made| made.text_position);
+            let compared: BTreeSet<usize> = positions.collect();
+            assert!(compared.into_iter().eq(0..300));
+            assert_eq!(done.comparisons.len(), 300);
+        }
+    }
+}
+
+/// Patterns of every period that has room for three, just below, at and just above three periods.
+#[test]
+fn shifts_of_long_repeats() {
+    for pattern in repeats::patterns() {
+        let tables = Tables::of(&pattern);
+        let (m, p) = (pattern.len(), tables.period);
+        assert_eq!(tables.delta3.len(), m);
+        let defined = if m >= 3 * p { m - p..m - 1 } else { 0..0 };
+        for i in 0..m {
+            let shift = tables.delta3[i];
+            if !defined.contains(&i) {
+                assert_eq!(shift, 0);
+                continue;
+            }
+            // Enough for the bound, and from h_min and r_min.
+            assert!((m - 2 * p + 1..=m).contains(&shift));
+            let by_h_min = (m - 2 * p + 1..=i).find(|&k| {
+                let beyond = k + p;
+                tables.h_min[k] == i && (beyond >= m || tables.h_min[beyond] == beyond - 1)
+            });
+            assert_eq!(shift, by_h_min.unwrap_or(tables.r_min[i]));
+        }
+        // The shift after a repeat alignment whose first comparison differs.
+        if m >= 3 * p {
+            let others = (0..=255).filter(|&c| c != pattern[m - 1]);
+            assert!(others.into_iter().all(|c| tables.delta1(c, p) >= m - p));
+        }
+    }
+}
+
+/// Runs of a period broken anywhere, copies that share their ends, and the largest: the steps find
+/// what occurs within the bound, and a text that differs only where nothing was compared has the same.
+#[test]
+fn long_repeats_and_their_pairs() {
+    let mut random = Random::seeded(13);
+    let mut different = 0;
+    let texts = repeats::broken()
+        .chain(repeats::copies())
+        .chain(repeats::mixed());
+    for (pattern, text) in texts.chain(repeats::largest()) {
+        let tables = Tables::of(&pattern);
+        let mut few = pattern.clone();
+        few.push(random.byte());
+        different += usize::from(check_pair(&mut random, &tables, &pattern, &text, &few));
+    }
+    assert!(different > 700, "only {different} pairs differed");
+}
+
+/// Every long repeat of up to 11 bytes over two, followed by anything short.
+#[test]
+fn long_repeats_with_any_end() {
+    for pattern in repeats::all_short() {
+        let tables = Tables::of(&pattern);
+        for text in repeats::with_any_end(&pattern) {
+            check_search(&tables, &pattern, &text);
+        }
     }
 }
 
@@ -304,6 +374,7 @@ fn calls_agree_with_seek() {
             (&prepared.order, &prepared.delta1, &prepared.delta2),
             (&converted.order, &converted.delta1, &converted.delta2)
         );
+        assert_eq!(prepared.delta3, converted.delta3);
 
         let printed = seek(&job::write(&job));
         let lines: Vec<usize> = printed

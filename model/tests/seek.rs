@@ -19,6 +19,7 @@ use std::time::Duration;
 use common::bounds;
 use common::examples::example_jobs;
 use common::files::{largest_job, small_job, spoiled_files};
+use common::repeats;
 use ruffarmoire_model::gen::{Random, SHAPES};
 use ruffarmoire_model::job::{self, Job};
 use ruffarmoire_model::seek::seek;
@@ -184,11 +185,32 @@ fn longer_jobs() {
 }
 
 #[test]
+fn long_repeats() {
+    for (round, (pattern, text)) in repeats::mixed().step_by(9).enumerate() {
+        let hold = round % pattern.len();
+        let job = Job {
+            pattern,
+            hold,
+            text,
+        };
+        check_job(&job, [Way::File, Way::Pipe][round % 2]);
+    }
+}
+
+#[test]
 fn largest_jobs() {
     let mut random = Random::seeded(103);
     for shape in SHAPES {
         check_job(&shape.job(&mut random, 1, 16_384), Way::Pipe);
         check_job(&shape.job(&mut random, 128, 16_384), Way::File);
+    }
+    for (pattern, text) in repeats::largest().step_by(4) {
+        let job = Job {
+            pattern,
+            hold: 1,
+            text,
+        };
+        check_job(&job, Way::Pipe);
     }
     // The longest that SEEK prints: every byte of the text is an occurrence and a frame.
     let all_found = Job {

@@ -13,7 +13,7 @@ use ruffarmoire_model::answers::{
 use ruffarmoire_model::calls::{self, TableLengths};
 use ruffarmoire_model::job::{self, Job};
 use ruffarmoire_model::steps::{bound, search};
-use ruffarmoire_model::tables::{delta1, period, Tables};
+use ruffarmoire_model::tables::{delta1, delta3, period, Tables};
 use ruffarmoire_model::{convert, price, seek};
 
 const A: u8 = 0x06;
@@ -81,7 +81,7 @@ fn example_6_one_byte() {
 
 #[test]
 fn example_7_overlapping_occurrences() {
-    check_search(&[A; 4], &[A; 6], &[0, 1, 2], 12);
+    check_search(&[A; 4], &[A; 6], &[0, 1, 2], 6);
 }
 
 #[test]
@@ -314,6 +314,62 @@ fn slips_are_seen() {
     assert_eq!(convert::occurrences(&[A, A], &[A, A, A]), [0, 1]);
     assert_eq!(convert::frames(&[A, A], 1, &[A, A, A]), [6, 256, 256]);
     assert_eq!(convert::occurrences(&[A, A], &marked), []);
+}
+
+/// Document 02, "Long repeats": the shifts, and two occurrences that share a byte.
+#[test]
+fn long_repeats() {
+    let pattern = [A, A, C, A, A, C, A, A, C, A, A];
+    assert_eq!(period(&pattern), 3);
+    assert_eq!(delta3(&pattern, 9), 7);
+    let tables = Tables::of(&pattern);
+    assert_eq!(tables.delta3(9), 7);
+    assert_eq!(tables.delta3, [0, 0, 0, 0, 0, 0, 0, 0, 9, 7, 0]);
+    // The first occurrence has 11 comparisons. Three on, position 10 agrees and 9 differs: 2. Seven on
+    // is the second occurrence: 11.
+    let text = [&pattern[..], &pattern[1..]].concat();
+    assert_eq!(text.len(), 21);
+    check_search(&pattern, &text, &[0, 10], 24);
+    assert_eq!(bound(&tables, 21, 2), 31);
+    // A further period has its 3 bytes compared; where its last byte differs, one comparison is made.
+    let text = [&pattern[..], &[C, A, A]].concat();
+    check_search(&pattern, &text, &[0, 3], 11 + 3);
+    let text = [&pattern[..], &[C, A, C]].concat();
+    check_search(&pattern, &text, &[0], 11 + 1);
+}
+
+/// Δ3 is stored for the positions m - p to m - 2 of a pattern of at least three periods, and 0
+/// elsewhere.
+#[test]
+fn long_repeats_begin_at_three_periods() {
+    let delta3 = |pattern: &[u8]| {
+        let prepared = calls::prepare(pattern, TableLengths::needed(pattern.len()));
+        prepared.delta3
+    };
+    assert_eq!(delta3(&[A]), [0]);
+    assert_eq!(delta3(&[A; 3]), [0; 3]);
+    assert_eq!(delta3(&[A; 4]), [0; 4]);
+    assert_eq!(delta3(&[A, C, A, C, A]), [0; 5]);
+    assert_eq!(delta3(&[A, C, A, C, A, C]), [0, 0, 0, 0, 6, 0]);
+    assert_eq!(delta3(&[A, A, C, A, A]), [0; 5]);
+    assert_eq!(delta3(&[A, A, C, A, A, C, A, A]), [0; 8]);
+    assert_eq!(
+        delta3(&[A, A, C, A, A, C, A, A, C]),
+        [0, 0, 0, 0, 0, 0, 9, 9, 0]
+    );
+    // Below three periods every occurrence is compared whole, and adds to the bound.
+    let search = |pattern: &[u8], text: &[u8]| {
+        let lengths = TableLengths::needed(pattern.len());
+        let answer = calls::search(pattern, text, lengths, text.len()).answer;
+        (answer.occurrences, answer.comparisons, answer.bound)
+    };
+    assert_eq!(
+        search(&[A, C, A, C, A], &[A, C, A, C, A, C, A]),
+        (2, 10, 11)
+    );
+    assert_eq!(search(&[A, A], &[A; 6]), (5, 10, 10));
+    assert_eq!(search(&[A, A, A], &[A; 6]), (4, 6, 9));
+    assert_eq!(search(&[A; 4], &[A; 6]), (3, 6, 8));
 }
 
 /// Document 02, "Back to cards": the listing's frames are put back to its text.

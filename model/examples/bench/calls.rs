@@ -116,8 +116,17 @@ fn writing<'a>(job: &'a Job, file: &'a [u8], call: Write) -> Timed<'a> {
     })
 }
 
-type Convert =
-    fn(u32, &[u8], &[u8], &mut [i16], &mut [u16], &mut [u16], &mut [u16], &mut [u16]) -> Answer;
+type Convert = fn(
+    u32,
+    &[u8],
+    &[u8],
+    &mut [i16],
+    &mut [u16],
+    &mut [u16],
+    &mut [u16],
+    &mut [u16],
+    &mut [u16],
+) -> Answer;
 
 /// The buffers that a conversion is lent.
 struct ConvertBuffers {
@@ -142,6 +151,7 @@ fn converting(job: &Job, call: Convert) -> Timed<'_> {
             &mut lent.tables.order,
             &mut lent.tables.delta2,
             &mut lent.tables.delta1,
+            &mut lent.tables.delta3,
             &mut lent.found,
             &mut lent.frames,
         )

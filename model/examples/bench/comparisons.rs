@@ -56,8 +56,8 @@ pub fn run() {
             for _ in 0..PATTERNS {
                 let pattern = over(m);
                 let (order, delta2) = (&mut tables.order, &mut tables.delta2);
-                let delta1 = &mut tables.delta1;
-                let answer = search(&pattern, &text, order, delta2, delta1, &mut found);
+                let (delta1, delta3) = (&mut tables.delta1, &mut tables.delta3);
+                let answer = search(&pattern, &text, order, delta2, delta1, delta3, &mut found);
                 assert_eq!(answer.status, 0);
                 sum += u64::from(answer.comparisons);
             }

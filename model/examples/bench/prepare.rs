@@ -30,7 +30,7 @@ pub fn run() {
     );
     let mut random = Random::seeded(32);
     for m in [1, 2, 8, 32, 128] {
-        for kind in KINDS {
+        for kind in KINDS.into_iter().filter(|kind| kind.has_length(m)) {
             let patterns: Vec<Vec<u8>> = (0..PATTERNS)
                 .map(|_| kind.pattern(&mut random, m))
                 .collect();
@@ -65,16 +65,23 @@ enum Kind {
     Random(usize),
     /// A random quarter again and again.
     Periodic,
+    /// A root of so many random bytes again and again, at least three times.
+    Repeated(usize),
     AllEqual,
 }
 
-const KINDS: [Kind; 7] = [
+const KINDS: [Kind; 12] = [
     Kind::Random(2),
     Kind::Random(5),
     Kind::Random(26),
     Kind::Random(48),
     Kind::Random(256),
     Kind::Periodic,
+    Kind::Repeated(2),
+    Kind::Repeated(3),
+    Kind::Repeated(8),
+    Kind::Repeated(24),
+    Kind::Repeated(42),
     Kind::AllEqual,
 ];
 
@@ -83,24 +90,45 @@ impl Kind {
         match self {
             Kind::Random(bytes) => format!("random over {bytes}"),
             Kind::Periodic => "periodic".to_string(),
+            Kind::Repeated(period) => format!("period {period}"),
             Kind::AllEqual => "all equal".to_string(),
+        }
+    }
+
+    /// Whether there are patterns of m bytes of this kind.
+    fn has_length(self, m: usize) -> bool {
+        match self {
+            Kind::Repeated(period) => m >= 3 * period,
+            _ => true,
         }
     }
 
     fn pattern(self, random: &mut Random, m: usize) -> Vec<u8> {
         match self {
             Kind::Random(bytes) => (0..m).map(|_| random.below(bytes) as u8).collect(),
-            Kind::Periodic => {
-                let root: Vec<u8> = (0..m.div_ceil(4)).map(|_| random.below(26) as u8).collect();
-                root.iter().copied().cycle().take(m).collect()
-            }
+            Kind::Periodic => repeated_root(random, m.div_ceil(4)).take(m).collect(),
+            Kind::Repeated(period) => repeated_root(random, period).take(m).collect(),
             Kind::AllEqual => vec![random.byte(); m],
         }
     }
 }
 
+/// A root of so many random bytes again and again. Its first byte is in it once, so that it has no
+/// shorter period.
+pub fn repeated_root(random: &mut Random, period: usize) -> impl Iterator<Item = u8> {
+    let mut root: Vec<u8> = (0..period).map(|_| random.below(26) as u8).collect();
+    root[0] = 26;
+    root.into_iter().cycle()
+}
+
 /// A call that prepares a pattern.
-pub type Prepare = fn(&[u8], &mut [i16], &mut [u16], &mut [u16]) -> Answer;
+pub type Prepare = fn(&[u8], &mut [i16], &mut [u16], &mut [u16], &mut [u16]) -> Answer;
+
+fn call_with(call: Prepare, pattern: &[u8], tables: &mut TableBuffers) -> Answer {
+    let (order, delta2) = (&mut tables.order, &mut tables.delta2);
+    let (delta1, delta3) = (&mut tables.delta1, &mut tables.delta3);
+    call(pattern, order, delta2, delta1, delta3)
+}
 
 /// Preparing each of some patterns of one length, timed.
 pub fn timed(patterns: &[Vec<u8>], call: Prepare) -> Timed<'_> {
@@ -109,8 +137,7 @@ pub fn timed(patterns: &[Vec<u8>], call: Prepare) -> Timed<'_> {
     let mut expected = tables.clone();
     for pattern in patterns {
         let prepare = |call: Prepare, tables: &mut TableBuffers| {
-            let (order, delta2) = (&mut tables.order, &mut tables.delta2);
-            let answer = call(pattern, order, delta2, &mut tables.delta1);
+            let answer = call_with(call, pattern, tables);
             assert_eq!(answer.status, 0);
             answer
         };
@@ -120,8 +147,7 @@ pub fn timed(patterns: &[Vec<u8>], call: Prepare) -> Timed<'_> {
     }
     Timed::new(patterns.len(), move || {
         for pattern in patterns {
-            let (order, delta2) = (&mut tables.order, &mut tables.delta2);
-            black_box(call(black_box(pattern), order, delta2, &mut tables.delta1));
+            black_box(call_with(call, black_box(pattern), &mut tables));
             black_box(&mut tables);
         }
     })

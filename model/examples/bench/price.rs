@@ -11,20 +11,14 @@ use ruffarmoire_model::price::cost;
 
 use crate::baseline::{matcher, price};
 use crate::library;
-use crate::search::{comparisons, searching, Buffers, Pair};
+use crate::search::{searching, Buffers, Pair};
 use crate::timing::{differences, medians, Timed};
 
 /// Patterns and texts of each kind, over which a time is the mean.
 const PAIRS: usize = 4;
 
-/// The most comparisons for a byte of the text where what is beyond the search is told. Where the
-/// search makes more, the rest of a price is less than what the time of the search varies by.
-const COMPARISONS: usize = 16;
-
 pub fn run() {
-    println!(
-        "price: µs a call, each time over {PAIRS} patterns and texts of a kind. - where the search is nearly all."
-    );
+    println!("price: µs a call, each time over {PAIRS} patterns and texts of a kind.");
     println!("{:21} | {:30} | beyond the search", "", "whole calls");
     println!(
         "{:>6} {:>4} {:9} | {:>8} {:>8} {:>12} | {:>8} {:>8} {:>12}",
@@ -51,10 +45,6 @@ fn print(kind: Kind, m: usize, n: usize, pairs: &[Pair]) {
         kind.name(),
         rattle / rust
     );
-    if comparisons(pairs, n) as usize > COMPARISONS * n * pairs.len() {
-        println!(" {:>8}", "-");
-        return;
-    }
     let [rattle, rust] = differences([
         [pricing(library::price), searching(library::search)],
         [pricing(price::price), searching(matcher::search)],
@@ -88,23 +78,25 @@ impl Kind {
 }
 
 /// A call that prices a job.
-type Price = fn(u32, &[u8], &[u8], &mut [i16], &mut [u16], &mut [u16], &mut [u16]) -> PriceAnswer;
+type Price = fn(
+    u32,
+    &[u8],
+    &[u8],
+    &mut [i16],
+    &mut [u16],
+    &mut [u16],
+    &mut [u16],
+    &mut [u16],
+) -> PriceAnswer;
 
 /// A price, with the middle of the pattern as the hold offset.
 fn priced(call: Price, pair: &Pair, buffers: &mut Buffers) -> PriceAnswer {
     let (pattern, text) = black_box(pair);
     let Buffers { tables, found } = buffers;
     let (order, delta2) = (&mut tables.order, &mut tables.delta2);
+    let (delta1, delta3) = (&mut tables.delta1, &mut tables.delta3);
     let hold = hold_offset(pattern) as u32;
-    let answer = call(
-        hold,
-        pattern,
-        text,
-        order,
-        delta2,
-        &mut tables.delta1,
-        found,
-    );
+    let answer = call(hold, pattern, text, order, delta2, delta1, delta3, found);
     black_box((answer, buffers)).0
 }
 

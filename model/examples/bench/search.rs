@@ -11,6 +11,7 @@ use ruffarmoire_model::gen::Random;
 
 use crate::baseline::matcher;
 use crate::library;
+use crate::prepare::repeated_root;
 use crate::table_buffers::TableBuffers;
 use crate::timing::{differences, medians, Timed};
 
@@ -89,18 +90,32 @@ enum Kind {
     AllEqual,
     /// A root of so many random bytes again and again, in both.
     Periodic(usize),
+    /// The same, with another byte in the text now and then.
+    Broken(usize),
     /// The same, with another byte in the pattern's middle, so that it does not occur.
     Spoiled(usize),
 }
 
-const KINDS: [Kind; 8] = [
+/// The bytes of a text among which one is another where a run is broken now and then.
+const UNBROKEN: usize = 512;
+
+const KINDS: [Kind; 17] = [
     Kind::Random(2),
     Kind::Random(5),
     Kind::Random(26),
     Kind::Random(256),
     Kind::AllEqual,
+    Kind::Periodic(2),
+    Kind::Periodic(3),
     Kind::Periodic(4),
+    Kind::Periodic(8),
     Kind::Periodic(24),
+    Kind::Periodic(42),
+    Kind::Broken(1),
+    Kind::Broken(2),
+    Kind::Broken(3),
+    Kind::Broken(8),
+    Kind::Broken(42),
     Kind::Spoiled(4),
 ];
 
@@ -110,6 +125,7 @@ impl Kind {
             Kind::Random(bytes) => format!("random over {bytes}"),
             Kind::AllEqual => "all equal".to_string(),
             Kind::Periodic(period) => format!("period {period}"),
+            Kind::Broken(period) => format!("period {period}, broken"),
             Kind::Spoiled(period) => format!("period {period}, no match"),
         }
     }
@@ -117,7 +133,10 @@ impl Kind {
     fn lengths(self) -> &'static [usize] {
         match self {
             Kind::Random(_) | Kind::AllEqual => &[2, 8, 32, 128],
-            _ => &[8, 32, 128],
+            Kind::Periodic(42) => &[126, 128],
+            Kind::Broken(42) => &[126],
+            Kind::Broken(_) => &[128],
+            Kind::Periodic(_) | Kind::Spoiled(_) => &[8, 32, 128],
         }
     }
 
@@ -128,21 +147,30 @@ impl Kind {
         match self {
             Kind::Random(bytes) => (over(bytes, m), over(bytes, N)),
             Kind::AllEqual => (vec![0x18; m], vec![0x18; N]),
-            Kind::Periodic(period) | Kind::Spoiled(period) => {
-                let root = over(26, period);
-                let net = |length: usize| root.iter().copied().cycle().take(length);
-                let mut pattern: Vec<u8> = net(m).collect();
-                if matches!(self, Kind::Spoiled(_)) {
-                    pattern[m / 2] = 0xFF;
+            Kind::Periodic(period) => {
+                let text: Vec<u8> = repeated_root(random, period).take(N).collect();
+                (text[..m].to_vec(), text)
+            }
+            Kind::Broken(period) => {
+                let (pattern, mut text) = Kind::Periodic(period).pair(random, m);
+                for piece in text.chunks_mut(UNBROKEN) {
+                    // A byte that the root may have or, above 26, one that it has not.
+                    piece[random.below(piece.len())] = random.below(52) as u8;
                 }
-                (pattern, net(N).collect())
+                (pattern, text)
+            }
+            Kind::Spoiled(period) => {
+                let (mut pattern, text) = Kind::Periodic(period).pair(random, m);
+                pattern[m / 2] = 0xFF;
+                (pattern, text)
             }
         }
     }
 }
 
 /// A call that searches.
-type Search = fn(&[u8], &[u8], &mut [i16], &mut [u16], &mut [u16], &mut [u16]) -> Answer;
+type Search =
+    fn(&[u8], &[u8], &mut [i16], &mut [u16], &mut [u16], &mut [u16], &mut [u16]) -> Answer;
 
 /// A call that finds occurrences and does nothing else.
 type Find = fn(&[u8], &[u8], &mut [u16]) -> usize;
@@ -166,16 +194,10 @@ impl Buffers {
 fn search(call: Search, pair: &Pair, n: usize, buffers: &mut Buffers) -> Answer {
     let (pattern, text) = black_box(pair);
     let text = &text[..n];
-    let tables = &mut buffers.tables;
+    let Buffers { tables, found } = buffers;
     let (order, delta2) = (&mut tables.order, &mut tables.delta2);
-    let answer = call(
-        pattern,
-        text,
-        order,
-        delta2,
-        &mut tables.delta1,
-        &mut buffers.found,
-    );
+    let (delta1, delta3) = (&mut tables.delta1, &mut tables.delta3);
+    let answer = call(pattern, text, order, delta2, delta1, delta3, found);
     black_box((answer, buffers)).0
 }
 
@@ -220,7 +242,7 @@ fn finding(pairs: &[Pair], call: Find) -> Timed<'_> {
 }
 
 /// The comparisons of all these searches, each of a text's first n bytes.
-pub fn comparisons(pairs: &[Pair], n: usize) -> u32 {
+fn comparisons(pairs: &[Pair], n: usize) -> u32 {
     let mut buffers = Buffers::needed(pairs[0].0.len());
     pairs
         .iter()

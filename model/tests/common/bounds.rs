@@ -33,13 +33,20 @@ impl Bounded {
 
 /// Of all searches for a pattern of m bytes in texts of up to 11, over two bytes, how many have
 /// comparisons and meet their bound: for m from 1 to 6.
-pub const MET: [usize; 6] = [4, 44, 18, 58, 110, 256];
+pub const MET: [usize; 6] = [4, 44, 24, 66, 120, 266];
+
+/// Those among them whose pattern has at least three periods. A pattern of one byte throughout, of
+/// which there are two, meets its bound in m + 1 texts: up to m - 1 other bytes and then the pattern,
+/// two comparisons for each of the other bytes; and the pattern with another byte before its last. Of
+/// 6 bytes there are also two patterns of period 2, each in itself and with another byte where the
+/// last comparison is.
+pub const MET_BY_LONG_REPEATS: [usize; 6] = [0, 0, 8, 10, 12, 14 + 4];
 
 /// Pattern and text by the letters of document 01's examples, and then p and the bound.
 type Short = (&'static str, &'static str, u32, u32);
 
 /// The bound is 0 for a text that is shorter than the pattern, and else 2 n - m and what each
-/// occurrence adds.
+/// occurrence adds, where m is above 2 p and below 3 p.
 const SHORT: &[Short] = &[
     // m is 1.
     ("a", "", 1, 0),
@@ -80,25 +87,36 @@ const SHORT: &[Short] = &[
     ("abab", "bbbb", 2, 4),
     ("abab", "ababab", 2, 8),
     ("aacaac", "aacaacaac", 3, 12),
-    // m is above 2 p: each occurrence adds m - 2 p. Texts have none of them, one and more.
-    ("aaa", "", 1, 0),
-    ("aaa", "aa", 1, 0),
-    ("aaa", "aca", 1, 3),
-    ("aaa", "aaa", 1, 4),
-    ("aaa", "aacaaa", 1, 10),
-    ("aaa", "aaaaaa", 1, 13),
-    ("aaaa", "aaa", 1, 0),
-    ("aaaa", "aaaaaa", 1, 14),
+    // m is above 2 p and below 3 p: each occurrence adds m - 2 p. Texts have none, one and more.
     ("ababa", "abab", 2, 0),
     ("ababa", "babab", 2, 5),
     ("ababa", "ababa", 2, 6),
     ("ababa", "ababaaa", 2, 10),
     ("ababa", "abababa", 2, 11),
     ("ababa", "ababababaaa", 2, 20),
+    ("aacaaca", "aacaacaaca", 3, 15),
     ("aacaacaa", "aacaaca", 3, 0),
     ("aacaacaa", "aacaacaaaaa", 3, 16),
     ("aacaacaa", "aacaacaacaa", 3, 18),
-    ("aacaacaacaa", "aacaacaacaaacaacaacaa", 3, 41),
+    // m is 3 p: occurrences add nothing.
+    ("aaa", "", 1, 0),
+    ("aaa", "aa", 1, 0),
+    ("aaa", "aca", 1, 3),
+    ("aaa", "aaa", 1, 3),
+    ("aaa", "aacaaa", 1, 9),
+    ("aaa", "aaaaaa", 1, 9),
+    ("ababab", "ababa", 2, 0),
+    ("ababab", "ababaa", 2, 6),
+    ("ababab", "ababab", 2, 6),
+    ("ababab", "ababababab", 2, 14),
+    ("aacaacaac", "aacaacaa", 3, 0),
+    ("aacaacaac", "aacaacaacaacaac", 3, 21),
+    // m is above 3 p.
+    ("aaaa", "aaa", 1, 0),
+    ("aaaa", "aaaaaa", 1, 8),
+    ("abababa", "abababa", 2, 7),
+    ("abababa", "ababababa", 2, 11),
+    ("aacaacaacaa", "aacaacaacaaacaacaacaa", 3, 31),
 ];
 
 /// The letters that a pattern has again and again and its length; the same of a text, and how it ends;
@@ -110,18 +128,29 @@ type Long = (
     u32,
 );
 
+/// Roots of 42 and 43 letters, with one letter that they have once.
+const ROOT_OF_42: &str = "aaaaaaaaaaaaaaaaaaaaaaaaaaaaaaaaaaaaaaaaac";
+const ROOT_OF_43: &str = "aaaaaaaaaaaaaaaaaaaaaaaaaaaaaaaaaaaaaaaaaac";
+
 /// Texts as long as can be, or about as long as the longest pattern.
 const LONG: &[Long] = &[
     (("a", 128), ("a", 0, ""), 1, 0),
     (("a", 128), ("a", 127, ""), 1, 0),
-    (("a", 128), ("a", 128, ""), 1, 254),
+    (("a", 128), ("a", 128, ""), 1, 128),
     (("a", 1), ("a", 16_384, ""), 1, 32_767),
     (("a", 2), ("a", 16_384, ""), 1, 32_766),
+    (("a", 3), ("a", 16_384, ""), 1, 32_765),
     (("a", 128), ("c", 16_384, ""), 1, 32_640),
-    (("a", 128), ("a", 16_384, ""), 1, 2_081_022),
-    (("ca", 127), ("ca", 16_384, ""), 2, 1_032_508),
-    (("ca", 128), ("ca", 16_384, "aa"), 2, 1_040_512),
-    (("aac", 128), ("aac", 16_384, ""), 3, 693_758),
+    (("a", 128), ("a", 16_384, ""), 1, 32_640),
+    (("ca", 5), ("ca", 16_384, ""), 2, 40_953),
+    (("ca", 127), ("ca", 16_384, ""), 2, 32_641),
+    (("ca", 128), ("ca", 16_384, "aa"), 2, 32_640),
+    (("aac", 8), ("aac", 16_384, ""), 3, 43_678),
+    (("aac", 128), ("aac", 16_384, ""), 3, 32_640),
+    ((ROOT_OF_42, 125), (ROOT_OF_42, 16_384, ""), 42, 48_551),
+    ((ROOT_OF_42, 126), (ROOT_OF_42, 16_384, ""), 42, 32_642),
+    ((ROOT_OF_42, 128), (ROOT_OF_42, 16_384, ""), 42, 32_640),
+    ((ROOT_OF_43, 128), (ROOT_OF_43, 16_384, ""), 43, 48_558),
 ];
 
 /// All searches that are written out.

@@ -54,7 +54,11 @@ pub fn worked_examples<T: MatcherCalls>() {
     expect(&[A, A, C, A, A], &listing, &[0, 4], 12);
     expect(&[A, A, C, A, A], &[], &[], 0);
     expect(&[A], &[A], &[0], 1);
-    expect(&[A; 4], &[A; 6], &[0, 1, 2], 12);
+    expect(&[A; 4], &[A; 6], &[0, 1, 2], 6);
     expect(&[A], &[A, C, A], &[0, 2], 3);
     expect(&[A, A], &[A], &[], 0);
+    // Two copies that share a byte, of a pattern of more than three periods.
+    let pattern = [A, A, C, A, A, C, A, A, C, A, A];
+    let sharing = [&pattern[..], &pattern[1..]].concat();
+    expect(&pattern, &sharing, &[0, 10], 24);
 }

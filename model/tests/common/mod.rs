@@ -11,6 +11,7 @@ pub mod bounds;
 pub mod examples;
 pub mod files;
 pub mod lengths;
+pub mod repeats;
 pub mod searches;
 pub mod table_buffers;
 pub mod words;

@@ -8,6 +8,7 @@ use ruffarmoire_model::gen::{Random, Shape, SHAPES};
 use super::bounds;
 use super::harness::{reserved, shown};
 use super::lengths::BufferLengths;
+use super::repeats;
 use super::table_buffers::{longer, LentTables, TableBuffers};
 use super::words::{period, structured_words, words};
 
@@ -25,6 +26,7 @@ macro_rules! prepare_suite {
             all_short_patterns,
             generated_patterns,
             structured_patterns,
+            long_repeats,
             every_length,
             longest_patterns,
             every_byte_in_every_role,
@@ -85,6 +87,12 @@ pub fn worked_examples<T: PrepareCalls>() {
     let outcome = check_prepare::<T>(&[A, A, C, A, A], TableLengths::needed(5));
     let shift = |s: usize| outcome.delta1[usize::from(C) * 5 + s - 1];
     assert_eq!([shift(1), shift(2), shift(5)], [2, 5, 2]);
+    assert_eq!(outcome.delta3, [0; 5]);
+    let repeated = [A, A, C, A, A, C, A, A, C, A, A];
+    check_pattern::<T>(&repeated);
+    let outcome = check_prepare::<T>(&repeated, TableLengths::needed(11));
+    assert_eq!(outcome.answer, answer(3));
+    assert_eq!(outcome.delta3, [0, 0, 0, 0, 0, 0, 0, 0, 9, 7, 0]);
 }
 
 /// The period, and 0 for all that preparing does not work out.
@@ -132,6 +140,13 @@ pub fn structured_patterns<T: PrepareCalls>() {
             let from = random.below(word.len() - m);
             check_prepare::<T>(&word[from..from + m], TableLengths::needed(m));
         }
+    }
+}
+
+/// Patterns of every period that has room for three, with all kinds of buffers; and every short one.
+pub fn long_repeats<T: PrepareCalls>() {
+    for pattern in repeats::patterns().chain(repeats::all_short()) {
+        check_pattern::<T>(&pattern);
     }
 }
 

@@ -10,6 +10,7 @@ use super::bounds;
 use super::examples::example_jobs;
 use super::files::{largest_job, small_job, spoiled_files};
 use super::harness::{reserved, shown, Buffer};
+use super::repeats;
 
 /// An implementation of writing SEEK's report.
 pub trait ReportCalls {
@@ -24,6 +25,7 @@ macro_rules! report_suite {
             periods_and_bounds,
             generated_jobs,
             longer_jobs,
+            long_repeats,
             largest_jobs,
             every_buffer_length,
             spoiled_jobs,
@@ -108,6 +110,18 @@ pub fn longer_jobs<T: ReportCalls>() {
         let (m, n) = (random.between(1, 128), random.between(0, 1_000));
         let job = SHAPES[round % SHAPES.len()].job(&mut random, m, n);
         check_report::<T>(&job::write(&job), NUMBERS + 5 * n + 5 * n);
+    }
+}
+
+pub fn long_repeats<T: ReportCalls>() {
+    for (pattern, text) in repeats::mixed().chain(repeats::largest()) {
+        let hold = text.len() % pattern.len();
+        let job = Job {
+            pattern,
+            hold,
+            text,
+        };
+        check_report::<T>(&job::write(&job), LONGEST);
     }
 }
 

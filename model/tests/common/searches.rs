@@ -3,6 +3,7 @@
 use ruffarmoire_model::gen::{Random, Shape, SHAPES};
 use ruffarmoire_model::job::Job;
 
+use super::repeats;
 use super::words::{structured_words, words};
 
 /// A pattern and a text.
@@ -86,6 +87,7 @@ pub fn jobs() -> impl Iterator<Item = Job> {
         .chain(longer())
         .chain(structured())
         .chain(about_as_long())
+        .chain(repeats::mixed())
         .chain(largest());
     pairs.enumerate().map(|(round, (pattern, text))| {
         let m = pattern.len();

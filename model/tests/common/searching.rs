@@ -9,12 +9,16 @@ use std::fmt::{self, Debug, Display, Formatter};
 
 use ruffarmoire_model::answers::Answer;
 use ruffarmoire_model::calls::{Outcome, TableLengths};
+use ruffarmoire_model::convert::occurrences;
 use ruffarmoire_model::gen::{Random, Shape};
+use ruffarmoire_model::steps::search_with;
+use ruffarmoire_model::tables::Tables;
 
 use super::bounds;
 use super::examples::example_jobs;
 use super::harness::{expect_front, reserved, shown, Buffer};
 use super::lengths::BufferLengths;
+use super::repeats;
 use super::searches::{self, Pair};
 use super::table_buffers::{entries, longer, LentTables, TableBuffers};
 use super::words::{period, words};
@@ -46,6 +50,10 @@ macro_rules! searching_tests {
             largest_texts,
             structured_texts,
             texts_about_as_long_as_the_pattern,
+            long_repeats_broken_at_every_position,
+            long_repeats_that_share_their_ends,
+            long_repeats_at_random,
+            largest_long_repeats,
             every_byte_in_every_role,
             buffers_around_the_needed_lengths,
             refusals_at_their_edges,
@@ -62,6 +70,8 @@ macro_rules! bound_tests {
         tests_of!(searching, $call:
             periods_and_bounds,
             comparisons_within_the_bound,
+            all_short_long_repeats,
+            long_repeats_with_any_end,
         );
     };
 }
@@ -258,6 +268,25 @@ pub fn structured_texts<T: SearchingCall>() {
 
 pub fn texts_about_as_long_as_the_pattern<T: SearchingCall>() {
     for_each(searches::about_as_long(), check_exact::<T>);
+}
+
+pub fn long_repeats_broken_at_every_position<T: SearchingCall>() {
+    for_each(repeats::broken(), check_exact::<T>);
+}
+
+pub fn long_repeats_that_share_their_ends<T: SearchingCall>() {
+    for_each(repeats::copies(), check_exact::<T>);
+}
+
+pub fn long_repeats_at_random<T: SearchingCall>() {
+    for_each(repeats::mixed(), |input| {
+        check_exact::<T>(input);
+        check_other_buffers::<T>(input);
+    });
+}
+
+pub fn largest_long_repeats<T: SearchingCall>() {
+    for_each(repeats::largest(), check_exact::<T>);
 }
 
 /// Each byte as one that occurs in the pattern and the text, and as one that only the text has.
@@ -465,18 +494,74 @@ fn answer_within_the_bound<T: SearchingCall<Answer = Answer>>(
 pub fn comparisons_within_the_bound<T: SearchingCall<Answer = Answer>>() {
     const TWO: [u8; 2] = [0x06, 0x18];
     let [mut buffers, _] = Buffers::fillings(128, 16_384, Lengths::needed::<T>(128, 16_384));
-    let mut met = [0; 6];
+    let (mut met, mut met_by_long_repeats) = ([0; 6], [0; 6]);
     for pattern in words(&TWO, 1..7) {
+        let is_long_repeat = pattern.len() >= 3 * period(&pattern) as usize;
         for text in words(&TWO, 0..12) {
             let answer = answer_within_the_bound::<T>(Input::new(0, &pattern, &text), &mut buffers);
-            if answer.bound > 0 && answer.comparisons == answer.bound {
-                met[pattern.len() - 1] += 1;
-            }
+            let is_met = answer.bound > 0 && answer.comparisons == answer.bound;
+            met[pattern.len() - 1] += usize::from(is_met);
+            met_by_long_repeats[pattern.len() - 1] += usize::from(is_met && is_long_repeat);
         }
     }
     assert_eq!(met, bounds::MET);
+    assert_eq!(met_by_long_repeats, bounds::MET_BY_LONG_REPEATS);
     for job in searches::jobs() {
         let input = Input::new(job.hold as u32, &job.pattern, &job.text);
         answer_within_the_bound::<T>(input, &mut buffers);
+    }
+}
+
+/// Searches some texts for a pattern of at least three periods: the comparisons are those of the
+/// model's steps and at most 2 n - m, and the occurrences are those of the definition. The buffers go
+/// from call to call.
+fn check_texts<T: SearchingCall<Answer = Answer>>(
+    pattern: &[u8],
+    texts: impl Iterator<Item = Vec<u8>>,
+    buffers: &mut Buffers,
+) {
+    check_exact::<T>(Input::new(0, pattern, &[]));
+    let tables = Tables::of(pattern);
+    for text in texts {
+        let input = Input::new(0, pattern, &text);
+        let answer = T::call(input, buffers.lent());
+        let found = &buffers.found.lent()[..answer.occurrences as usize];
+        assert_eq!(found, entries(&occurrences(pattern, &text)), "{input}");
+        let steps = search_with(&tables, pattern, &text);
+        let (m, n) = (pattern.len() as u32, text.len() as u32);
+        let expected = Answer {
+            status: 0,
+            occurrences: found.len() as u32,
+            comparisons: steps.comparisons.len() as u32,
+            ones: answer.ones,
+            period: period(pattern),
+            bound: if n < m { 0 } else { 2 * n - m },
+        };
+        assert_eq!(answer, expected, "{input}");
+        assert!(answer.comparisons <= answer.bound, "{input}");
+    }
+}
+
+/// Buffers for the short patterns and texts of the tests below.
+fn short_buffers<T: SearchingCall>() -> Buffers {
+    let [buffers, _] = Buffers::fillings(11, 30, Lengths::longer::<T>(11, 30));
+    buffers
+}
+
+/// Every pattern of up to 8 bytes over two that has at least three periods, with every text of up to
+/// 12.
+pub fn all_short_long_repeats<T: SearchingCall<Answer = Answer>>() {
+    let mut buffers = short_buffers::<T>();
+    for pattern in repeats::all_short().filter(|pattern| pattern.len() <= 8) {
+        check_texts::<T>(&pattern, words(&[0x06, 0x18], 0..13), &mut buffers);
+    }
+}
+
+/// Every pattern of up to 11 bytes over two that has at least three periods, in texts that begin with
+/// it and go on in every way.
+pub fn long_repeats_with_any_end<T: SearchingCall<Answer = Answer>>() {
+    let mut buffers = short_buffers::<T>();
+    for pattern in repeats::all_short() {
+        check_texts::<T>(&pattern, repeats::with_any_end(&pattern), &mut buffers);
     }
 }

@@ -16,7 +16,12 @@ pub fn entries(numbers: &[usize]) -> Vec<u16> {
 
 impl BufferLengths for TableLengths {
     fn each(&mut self) -> Vec<&mut usize> {
-        vec![&mut self.order, &mut self.delta2, &mut self.delta1]
+        vec![
+            &mut self.order,
+            &mut self.delta2,
+            &mut self.delta1,
+            &mut self.delta3,
+        ]
     }
 }
 
@@ -26,6 +31,7 @@ pub fn longer(m: usize) -> TableLengths {
         order: m + 2,
         delta2: m + 40,
         delta1: 256 * m + 300,
+        delta3: m + 5,
     }
 }
 
@@ -34,6 +40,7 @@ pub struct LentTables<'a> {
     pub order: &'a mut [i16],
     pub delta2: &'a mut [u16],
     pub delta1: &'a mut [u16],
+    pub delta3: &'a mut [u16],
 }
 
 impl LentTables<'_> {
@@ -43,6 +50,7 @@ impl LentTables<'_> {
             order: reserved(length),
             delta2: reserved(length),
             delta1: reserved(length),
+            delta3: reserved(length),
         }
     }
 
@@ -52,6 +60,7 @@ impl LentTables<'_> {
             order: self.order,
             delta2: self.delta2,
             delta1: self.delta1,
+            delta3: self.delta3,
         }
     }
 
@@ -60,6 +69,7 @@ impl LentTables<'_> {
         expect_front(self.order, &outcome.order);
         expect_front(self.delta2, &entries(&outcome.delta2));
         expect_front(self.delta1, &entries(&outcome.delta1));
+        expect_front(self.delta3, &entries(&outcome.delta3));
     }
 }
 
@@ -68,6 +78,7 @@ pub struct TableBuffers {
     order: Buffer<i16>,
     delta2: Buffer<u16>,
     delta1: Buffer<u16>,
+    delta3: Buffer<u16>,
 }
 
 impl TableBuffers {
@@ -86,11 +97,13 @@ impl TableBuffers {
                 order: Buffer::junk(lengths.order, m),
                 delta2: Buffer::junk(lengths.delta2, m + 7),
                 delta1: Buffer::junk(lengths.delta1, m + 14),
+                delta3: Buffer::junk(lengths.delta3, m + 21),
             },
             TableBuffers {
                 order: looking_like(&order, lengths.order, m + 101),
                 delta2: looking_like(&delta2, lengths.delta2, m + 108),
                 delta1: looking_like(&vec![shift; 256 * m], lengths.delta1, m + 115),
+                delta3: looking_like(&vec![shift; m], lengths.delta3, m + 122),
             },
         ]
     }
@@ -100,6 +113,7 @@ impl TableBuffers {
             order: self.order.lent(),
             delta2: self.delta2.lent(),
             delta1: self.delta1.lent(),
+            delta3: self.delta3.lent(),
         }
     }
 
@@ -109,6 +123,7 @@ impl TableBuffers {
             order: self.order.after(&outcome.order),
             delta2: self.delta2.after(&entries(&outcome.delta2)),
             delta1: self.delta1.after(&entries(&outcome.delta1)),
+            delta3: self.delta3.after(&entries(&outcome.delta3)),
         }
     }
 
@@ -116,6 +131,7 @@ impl TableBuffers {
         self.order.expect(&expected.order, "order", context);
         self.delta2.expect(&expected.delta2, "delta2", context);
         self.delta1.expect(&expected.delta1, "delta1", context);
+        self.delta3.expect(&expected.delta3, "delta3", context);
     }
 }
 

@@ -31,20 +31,25 @@ impl JobCalls for Library {
 
 impl PrepareCalls for Library {
     fn prepare(pattern: &[u8], tables: LentTables) -> Answer {
-        calls::prepare(pattern, tables.order, tables.delta2, tables.delta1)
+        let LentTables {
+            order,
+            delta2,
+            delta1,
+            delta3,
+        } = tables;
+        calls::prepare(pattern, order, delta2, delta1, delta3)
     }
 }
 
 impl MatcherCalls for Library {
     fn search(pattern: &[u8], text: &[u8], tables: LentTables, found: &mut [u16]) -> Answer {
-        calls::search(
-            pattern,
-            text,
-            tables.order,
-            tables.delta2,
-            tables.delta1,
-            found,
-        )
+        let LentTables {
+            order,
+            delta2,
+            delta1,
+            delta3,
+        } = tables;
+        calls::search(pattern, text, order, delta2, delta1, delta3, found)
     }
 }
 
@@ -61,8 +66,11 @@ impl ConverterCalls for Library {
             order,
             delta2,
             delta1,
+            delta3,
         } = tables;
-        calls::convert(hold, pattern, text, order, delta2, delta1, found, frames)
+        calls::convert(
+            hold, pattern, text, order, delta2, delta1, delta3, found, frames,
+        )
     }
 
     fn count_ones(text: &[u8]) -> Answer {
@@ -107,7 +115,8 @@ impl PriceCalls for Library {
             order,
             delta2,
             delta1,
+            delta3,
         } = tables;
-        calls::price(hold, pattern, text, order, delta2, delta1, found)
+        calls::price(hold, pattern, text, order, delta2, delta1, delta3, found)
     }
 }

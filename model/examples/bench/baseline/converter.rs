@@ -16,6 +16,7 @@ pub fn convert(
     order: &mut [i16],
     delta2: &mut [u16],
     delta1: &mut [u16],
+    delta3: &mut [u16],
     found: &mut [u16],
     frames: &mut [u16],
 ) -> Answer {
@@ -29,13 +30,13 @@ pub fn convert(
     if n > MAX_TEXT {
         return Refusal::TextLength.into();
     }
-    if are_too_short(m, order, delta2, delta1) || found.len() < n || frames.len() < n {
+    if are_too_short(m, order, delta2, delta1, delta3) || found.len() < n || frames.len() < n {
         return Refusal::ShortBuffer.into();
     }
     // SAFETY: all lengths were just checked, and the tables are those of the pattern.
     let mut answer = unsafe {
-        write_tables(pattern, order, delta2, delta1);
-        run(pattern, text, order, delta2, delta1, found)
+        write_tables(pattern, order, delta2, delta1, delta3);
+        run(pattern, text, order, delta2, delta1, delta3, found)
     };
     for (frame, &byte) in frames.iter_mut().zip(text) {
         *frame = u16::from(byte);

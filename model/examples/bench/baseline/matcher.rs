@@ -1,4 +1,4 @@
-//! Searching: by the steps of document 01, and for their occurrences alone by the C library's
+//! Searching: by the steps of documents 01 and 02, and for their occurrences alone by the C library's
 //! `memmem` and by a plain scan.
 
 use std::ffi::c_void;
@@ -6,7 +6,7 @@ use std::ffi::c_void;
 use ruffarmoire_model::answers::{Answer, Refusal};
 use ruffarmoire_model::{MAX_PATTERN, MAX_TEXT};
 
-use super::tables::{are_too_short, period, write_tables};
+use super::tables::{are_too_short, is_long_repeat, period, write_tables};
 
 /// Searches a text for a pattern by the steps.
 pub fn search(
@@ -15,6 +15,7 @@ pub fn search(
     order: &mut [i16],
     delta2: &mut [u16],
     delta1: &mut [u16],
+    delta3: &mut [u16],
     found: &mut [u16],
 ) -> Answer {
     let (m, n) = (pattern.len(), text.len());
@@ -24,13 +25,13 @@ pub fn search(
     if n > MAX_TEXT {
         return Refusal::TextLength.into();
     }
-    if are_too_short(m, order, delta2, delta1) || found.len() < n {
+    if are_too_short(m, order, delta2, delta1, delta3) || found.len() < n {
         return Refusal::ShortBuffer.into();
     }
     // SAFETY: all lengths were just checked, and the tables are those of the pattern.
     unsafe {
-        write_tables(pattern, order, delta2, delta1);
-        run(pattern, text, order, delta2, delta1, found)
+        write_tables(pattern, order, delta2, delta1, delta3);
+        run(pattern, text, order, delta2, delta1, delta3, found)
     }
 }
 
@@ -46,16 +47,18 @@ pub(super) unsafe fn run(
     order: &[i16],
     delta2: &[u16],
     delta1: &[u16],
+    delta3: &[u16],
     found: &mut [u16],
 ) -> Answer {
     let (m, n) = (pattern.len(), text.len());
     let period = period(m, delta2);
     if n < m {
         return Answer {
-            period,
+            period: period as u32,
             ..Answer::default()
         };
     }
+    let is_long_repeat = is_long_repeat(m, period);
     let last = *pattern.get_unchecked(m - 1);
     let end = n - m;
     let (mut b, mut s) = (0, m);
@@ -82,11 +85,33 @@ pub(super) unsafe fn run(
             }
             i += 1;
         }
+        s = usize::from(*delta2.get_unchecked(i));
         if i == m {
             *found.get_unchecked_mut(occurrences) = b as u16;
             occurrences += 1;
+            if is_long_repeat {
+                let agreed = loop {
+                    b += period;
+                    if b > end {
+                        break 'text;
+                    }
+                    // Where the first comparison differs, it is that of an ordinary alignment, with
+                    // the same shift after it: the last shift is p.
+                    if *text.get_unchecked(b + m - 1) != last {
+                        continue 'text;
+                    }
+                    let agreed = agreed_from(m - period, pattern, text, b);
+                    if agreed > m - period {
+                        break agreed;
+                    }
+                    comparisons += period as u32;
+                    *found.get_unchecked_mut(occurrences) = b as u16;
+                    occurrences += 1;
+                };
+                comparisons += (m - agreed + 1) as u32;
+                s = usize::from(*delta3.get_unchecked(agreed - 1));
+            }
         }
-        s = usize::from(*delta2.get_unchecked(i));
         b += s;
         if b > end {
             break;
@@ -95,15 +120,30 @@ pub(super) unsafe fn run(
     Answer {
         occurrences: occurrences as u32,
         comparisons,
-        period,
-        bound: bound(m as u32, n as u32, occurrences as u32, period),
+        period: period as u32,
+        bound: bound(m as u32, n as u32, occurrences as u32, period as u32),
         ..Answer::default()
     }
 }
 
+/// From which position on the pattern agrees with the text at b, where its last byte does and those
+/// before it are compared down to the position given.
+#[inline(always)]
+unsafe fn agreed_from(lowest: usize, pattern: &[u8], text: &[u8], b: usize) -> usize {
+    let mut i = pattern.len() - 1;
+    while i > lowest && *pattern.get_unchecked(i - 1) == *text.get_unchecked(b + i - 1) {
+        i -= 1;
+    }
+    i
+}
+
 /// The bound on the comparisons of a search in a text that is no shorter than the pattern.
 fn bound(m: u32, n: u32, occurrences: u32, period: u32) -> u32 {
-    2 * n - m + occurrences * m.saturating_sub(2 * period)
+    if is_long_repeat(m as usize, period as usize) {
+        2 * n - m
+    } else {
+        2 * n - m + occurrences * m.saturating_sub(2 * period)
+    }
 }
 
 extern "C" {

@@ -24,6 +24,7 @@ pub fn seek_report(file: &[u8], out: &mut [u8]) -> ReportAnswer {
     let mut order = [0; MAX_PATTERN + 1];
     let mut delta2 = [0; MAX_PATTERN + 1];
     let mut delta1 = [0; 256 * MAX_PATTERN];
+    let mut delta3 = [0; MAX_PATTERN];
     let mut found = [0; MAX_TEXT];
     let mut frames = [0; MAX_TEXT];
     let answer = convert(
@@ -33,6 +34,7 @@ pub fn seek_report(file: &[u8], out: &mut [u8]) -> ReportAnswer {
         &mut order,
         &mut delta2,
         &mut delta1,
+        &mut delta3,
         &mut found,
         &mut frames,
     );

@@ -1,6 +1,6 @@
 //! A pattern's tables. The order and Δ2 are worked out by the linear listings of document 002,
-//! section 5; Δ1 either by sweeps over the rows of the bytes that the pattern has, or by that
-//! section's own listing.
+//! section 5, and Δ3 from theirs; Δ1 either by sweeps over the rows of the bytes that the pattern
+//! has, or by that section's own listing.
 
 use ruffarmoire_model::answers::{Answer, Refusal};
 use ruffarmoire_model::MAX_PATTERN;
@@ -11,8 +11,9 @@ pub fn prepare(
     order: &mut [i16],
     delta2: &mut [u16],
     delta1: &mut [u16],
+    delta3: &mut [u16],
 ) -> Answer {
-    prepare_with(write_delta1, pattern, order, delta2, delta1)
+    prepare_with(write_delta1, pattern, order, delta2, delta1, delta3)
 }
 
 /// Prepares a pattern, Δ1 by document 002's listing.
@@ -21,8 +22,16 @@ pub fn prepare_as_listed(
     order: &mut [i16],
     delta2: &mut [u16],
     delta1: &mut [u16],
+    delta3: &mut [u16],
 ) -> Answer {
-    prepare_with(write_delta1_as_listed, pattern, order, delta2, delta1)
+    prepare_with(
+        write_delta1_as_listed,
+        pattern,
+        order,
+        delta2,
+        delta1,
+        delta3,
+    )
 }
 
 #[inline(always)]
@@ -32,19 +41,20 @@ fn prepare_with(
     order: &mut [i16],
     delta2: &mut [u16],
     delta1: &mut [u16],
+    delta3: &mut [u16],
 ) -> Answer {
     let m = pattern.len();
     if m == 0 || m > MAX_PATTERN {
         return Refusal::PatternLength.into();
     }
-    if are_too_short(m, order, delta2, delta1) {
+    if are_too_short(m, order, delta2, delta1, delta3) {
         return Refusal::ShortBuffer.into();
     }
     // SAFETY: the pattern's length and those of the buffers were just checked.
     let period = unsafe {
-        write_order_and_delta2(pattern, order, delta2);
+        write_all_but_delta1(pattern, order, delta2, delta3);
         write_delta1(pattern, delta1);
-        period(m, delta2)
+        period(m, delta2) as u32
     };
     Answer {
         period,
@@ -53,8 +63,14 @@ fn prepare_with(
 }
 
 /// Whether a buffer has fewer entries than the tables of a pattern of m bytes, at most 128, need.
-pub(super) fn are_too_short(m: usize, order: &[i16], delta2: &[u16], delta1: &[u16]) -> bool {
-    order.len() < m + 1 || delta2.len() < m + 1 || delta1.len() < 256 * m
+pub(super) fn are_too_short(
+    m: usize,
+    order: &[i16],
+    delta2: &[u16],
+    delta1: &[u16],
+    delta3: &[u16],
+) -> bool {
+    order.len() < m + 1 || delta2.len() < m + 1 || delta1.len() < 256 * m || delta3.len() < m
 }
 
 /// Writes all tables.
@@ -67,8 +83,9 @@ pub(super) unsafe fn write_tables(
     order: &mut [i16],
     delta2: &mut [u16],
     delta1: &mut [u16],
+    delta3: &mut [u16],
 ) {
-    write_order_and_delta2(pattern, order, delta2);
+    write_all_but_delta1(pattern, order, delta2, delta3);
     write_delta1(pattern, delta1);
 }
 
@@ -77,8 +94,13 @@ pub(super) unsafe fn write_tables(
 /// # Safety
 ///
 /// The table is that of the pattern.
-pub(super) unsafe fn period(m: usize, delta2: &[u16]) -> u32 {
-    u32::from(at(delta2, m))
+pub(super) unsafe fn period(m: usize, delta2: &[u16]) -> usize {
+    usize::from(at(delta2, m))
+}
+
+/// Whether a pattern of m bytes with this period is searched by repeat alignments too.
+pub(super) fn is_long_repeat(m: usize, period: usize) -> bool {
+    m >= 3 * period
 }
 
 /// Entry `index`, unchecked.
@@ -93,8 +115,13 @@ unsafe fn put<T>(entries: &mut [T], index: usize, value: T) {
     *entries.get_unchecked_mut(index) = value;
 }
 
-/// The listings for h_min, k_min, r_min, the order and Δ2.
-unsafe fn write_order_and_delta2(w: &[u8], order: &mut [i16], delta2: &mut [u16]) {
+/// The listings for h_min, k_min, r_min, the order and Δ2; and Δ3.
+unsafe fn write_all_but_delta1(
+    w: &[u8],
+    order: &mut [i16],
+    delta2: &mut [u16],
+    delta3: &mut [u16],
+) {
     let m = w.len();
 
     let mut h_min = [0_u8; 129];
@@ -161,6 +188,31 @@ unsafe fn write_order_and_delta2(w: &[u8], order: &mut [i16], delta2: &mut [u16]
     }
     put(order, m, -1);
     put(delta2, m, u16::from(at(&r_min, 0)));
+
+    write_delta3(&h_min, &r_min, delta3.get_unchecked_mut(..m));
+}
+
+/// Δ3: of a long repeat, the entry of position i is the least k up to i with h_min(k) = i for which
+/// k + p is a period or at least m, or r_min(i) where there is none. Only a k above m - 2 p can be
+/// one.
+unsafe fn write_delta3(h_min: &[u8; 129], r_min: &[u8; 129], delta3: &mut [u16]) {
+    let m = delta3.len();
+    let p = usize::from(at(r_min, 0));
+    delta3.fill(0);
+    if !is_long_repeat(m, p) {
+        return;
+    }
+    for i in m - p..m - 1 {
+        put(delta3, i, u16::from(at(r_min, i)));
+    }
+    for k in (m - 2 * p + 1..m - 1).rev() {
+        let i = usize::from(at(h_min, k));
+        let beyond = k + p;
+        let agrees_below = beyond >= m || usize::from(at(h_min, beyond)) == beyond - 1;
+        if (k..m - 1).contains(&i) && agrees_below {
+            put(delta3, i, k as u16);
+        }
+    }
 }
 
 /// Δ1: every row is filled with m; then each position below m - 1 lowers the row of its byte to
