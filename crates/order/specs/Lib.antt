@@ -1,1 +1,1 @@
-pub mod Worked
+pub mod Groups

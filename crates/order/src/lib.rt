@@ -1,37 +1,67 @@
-// The order of a pattern's comparisons, Δ2 beside it, and Δ3 of a pattern that repeats, by h_min, k_min and r_min in tables of 129 entries.
-mod alignment;
-mod minima;
-mod repeats;
-
+// The order in which an alignment compares, in the caller's buffer, by h_min and k_min in tables of 129 entries.
+ghost use mathlib.Core.List.{map};
 ghost use mathlib.Core.Path.{_≡_};
 ghost use Prim.Native.Nat.{_+_, _≤_};
+ghost use lib.IntN.{pos};
 ghost use lib.ListN.{length};
-ghost use Rattle.answers.specs.Buffers.{in-front};
+ghost use Rattle.answers.specs.Buffers.{from-entry, in-front};
+ghost use Rattle.minima.specs.Minima.{H-min-table, K-min-table};
+ghost use Rattle.order.specs.Groups.{Second-group-written};
 ghost use Rattle.tables.specs.Buffers.{Pattern-taken};
-ghost use Rattle.tables.specs.Tables.{stored-order, Δ2, stored-Δ3};
+ghost use Rattle.tables.specs.Tables.{third-group, stored-order};
 
-// Writes all three for a pattern that is taken, in buffers that are long enough. It is public for the crate that prepares a pattern.
-pub fn write_order_and_shifts(
+// Writes the second group after the first entry: the h below m - 1 with k_min(h) not 0, by rising k_min. Returns the index at which the
+// third group begins.
+fn write_second_group(
     pattern: &[u8],
+    h_min: &[i16; 129],
+    k_min: &[u16; 129],
     order: &mut [i16],
-    delta2: &mut [u16],
-    delta3: &mut [u16],
-)
-    requires { ⌜ Pattern-taken (now pattern) ⌝ }
-    requires { ⌜ length (now pattern) + 1 ≤ length (now order) ⌝ }
-    requires { ⌜ length (now pattern) + 1 ≤ length (now delta2) ⌝ }
-    requires { ⌜ length (now pattern) ≤ length (now delta3) ⌝ }
-    ensures { λ r. ⌜ now (order .exit) ≡ in-front (stored-order (now (pattern .entry))) (now (order .entry)) ⌝ }
-    ensures { λ r. ⌜ now (delta2 .exit) ≡ in-front (Δ2 (now (pattern .entry))) (now (delta2 .entry)) ⌝ }
-    ensures { λ r. ⌜ now (delta3 .exit) ≡ in-front (stored-Δ3 (now (pattern .entry))) (now (delta3 .entry)) ⌝ }
+) -> usize
+    requires { ⌜ H-min-table (now pattern) (now «h_min») ⌝ }
+    requires { ⌜ K-min-table (now pattern) (now «k_min») ⌝ }
+    requires { ⌜ length (now pattern) ≤ length (now order) ⌝ }
+    ensures { λ r. ⌜ Second-group-written (now (pattern .entry)) (now (order .entry)) (now (order .exit)) r ⌝ }
 {
-    let mut h_min: [i16; 129] = [0; 129];
-    let mut k_min: [u16; 129] = [0; 129];
-    let mut r_min: [u16; 129] = [0; 129];
-    minima::h_min_table(pattern, &mut h_min);
-    minima::k_min_table(pattern, &h_min, &mut k_min);
-    minima::r_min_table(pattern, &h_min, &mut r_min);
-    alignment::write_order(pattern, &h_min, &k_min, order);
-    alignment::write_delta2(pattern, order, &k_min, &r_min, delta2);
-    repeats::write_delta3(pattern, &h_min, &r_min, delta3);
+    let m = pattern.len();
+    let last = m as i16 - 1;
+    let mut next = 1;
+    for k in 1..m + 1 {
+        let h = h_min[k];
+        if h < last && k_min[h as usize] == k as u16 {
+            order[next] = h;
+            next += 1;
+        }
+    }
+    next
+}
+
+// Writes the third group from index `begin` on: the h below m - 1 with k_min(h) = 0, rising.
+fn write_third_group(pattern: &[u8], k_min: &[u16; 129], begin: usize, order: &mut [i16])
+    requires { ⌜ Pattern-taken (now pattern) ⌝ }
+    requires { ⌜ K-min-table (now pattern) (now «k_min») ⌝ }
+    requires { ⌜ begin + length (third-group (now pattern)) ≤ length (now order) ⌝ }
+    ensures { λ r. ⌜ now (order .exit) ≡ from-entry begin (map pos (third-group (now (pattern .entry)))) (now (order .entry)) ⌝ }
+{
+    let mut next = begin;
+    for h in 0..pattern.len() - 1 {
+        if k_min[h] == 0 {
+            order[next] = h as i16;
+            next += 1;
+        }
+    }
+}
+
+// Writes the order: h(1) = m - 1, the two groups, and -1 after the last. It is public for the crate that prepares a pattern.
+pub fn write_order(pattern: &[u8], h_min: &[i16; 129], k_min: &[u16; 129], order: &mut [i16])
+    requires { ⌜ H-min-table (now pattern) (now «h_min») ⌝ }
+    requires { ⌜ K-min-table (now pattern) (now «k_min») ⌝ }
+    requires { ⌜ length (now pattern) + 1 ≤ length (now order) ⌝ }
+    ensures { λ r. ⌜ now (order .exit) ≡ in-front (stored-order (now (pattern .entry))) (now (order .entry)) ⌝ }
+{
+    let m = pattern.len();
+    order[0] = m as i16 - 1;
+    let begin = write_second_group(pattern, h_min, k_min, order);
+    write_third_group(pattern, k_min, begin, order);
+    order[m] = -1;
 }

@@ -1,5 +1,5 @@
 // Colussi's tables of a pattern: their definitions are in specs/, and the laws of each in proofs/. The code that writes them is in the crates
-// order, delta1 and prepare.
+// delta1, minima, order, delta2, delta3 and prepare.
 ghost use mathlib.Core.Path.{_≡_};
 ghost use Prim.Native.Nat.{_≤_};
 ghost use Rattle.tables.specs.Buffers.{tables-short, measured-status};
