@@ -20,8 +20,8 @@ use Rattle.tables.specs.Tables.{period, stored-order, Δ2, stored-Δ1, stored-�
 use Rattle.steps.proofs.Occurrences.{occurrences-few}
 use Rattle.steps.proofs.Text.{span-length}
 use Rattle.steps.specs.Bound.{bound}
-use Rattle.steps.specs.Run.{Run-ready, Run-outcome}
-use Rattle.steps.specs.declared.Counts.{Counts}
+use Rattle.run.specs.Run.{Run-ready, Run-outcome}
+use Rattle.run.specs.declared.Counts.{Counts}
 use Rattle.matcher.specs.Search.{search-status, search-status-of, search-done, found-left, Search-outcome-of}
 
 -- 4 and 6 are measured among 4, 5 and 6, of which 5 never holds

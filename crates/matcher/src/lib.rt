@@ -22,9 +22,9 @@ pub fn search_within(
         (now (found .entry)) (now (found .exit)) r ⌝ }
 {
     let period = prepare::write_tables(pattern, order, delta2, delta1, delta3);
-    let counts = steps::run_steps(pattern, text, order, delta2, delta1, delta3, found);
+    let counts = run::run_steps(pattern, text, order, delta2, delta1, delta3, found);
     let h = counts.occurrences;
-    let bound = steps::comparison_bound(pattern.len() as u32, text.len() as u32, h, period);
+    let bound = bounds::comparison_bound(pattern.len() as u32, text.len() as u32, h, period);
     answers::searched(h, counts.comparisons, period, bound)
 }
 

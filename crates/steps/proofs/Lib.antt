@@ -9,10 +9,3 @@ pub mod Occurrences
 pub mod Passed
 pub mod Decide
 pub mod Bound
-pub mod Stretch
-pub mod Moved
-pub mod Passing
-pub mod Repeating
-pub mod Comparing
-pub mod Stored
-pub mod Shifts

@@ -3,4 +3,3 @@ pub mod Steps
 pub mod Occurrences
 pub mod Bound
 pub mod Promises
-pub mod Run

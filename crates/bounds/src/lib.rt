@@ -1,0 +1,23 @@
+// The bound on the comparisons of a search, worked out.
+ghost use mathlib.Core.Path.{_≡_};
+ghost use Prim.Native.Nat.{_≤_};
+ghost use Rattle.steps.specs.Bound.{bound};
+
+// The most comparisons (looks) that demand 3 allows a search for a pattern (motif) of m bytes and this period, in a text (chain) of which n positions are
+// shown, with so many occurrences (finds). It is public for the crate that searches.
+pub fn comparison_bound(m: u32, n: u32, occurrences: u32, period: u32) -> u32
+    requires { ⌜ m ≤ 128 ⌝ }
+    requires { ⌜ n ≤ 65535 ⌝ }
+    requires { ⌜ occurrences ≤ n ⌝ }
+    requires { ⌜ period ≤ m ⌝ }
+    ensures { λ r. ⌜ r ≡ bound m n occurrences period ⌝ }
+{
+    if n < m {
+        return 0;
+    }
+    if 3 * period <= m {
+        return 2 * n - m;
+    }
+    let beyond = if 2 * period < m { m - 2 * period } else { 0 };
+    2 * n - m + occurrences * beyond
+}

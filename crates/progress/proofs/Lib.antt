@@ -1,0 +1,5 @@
+pub mod Stretch
+pub mod Moved
+pub mod Stored
+pub mod Shifts
+pub mod Passing

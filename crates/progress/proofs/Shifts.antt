@@ -1,0 +1,87 @@
+-- The entries that a step's shift is read from: Δ1's for the byte at the last position where none agreed, else Δ2's by the number that agreed, or in
+-- a repeat Δ3's by the position that differed. Each stands in its buffer, and is the shift: by the tables as they are stored.
+use mathlib.Core.Bool.{true, false}
+use mathlib.Core.List.{List}
+use mathlib.Core.Path.{_≡_, sym, _∙_}
+use Prim.Native.Nat.{ℕ, _+_, _*_, _-_, _≤_, _<_}
+use native.Mathlib.Omega.{arith}
+use lib.ListN.{length, getD}
+use Rattle.tables.proofs.Order.{Δ2-length, stored-Δ1-length}
+use Rattle.tables.proofs.RepeatRow.{repeats-holds, repeat-shifts-entry}
+use Rattle.tables.proofs.RepeatShift.{Δ3-defined-at, stored-Δ3-length, stored-Δ3-defined}
+use Rattle.tables.specs.Sets.{byte}
+use Rattle.tables.specs.Tables.{period, Δ1, Δ2, stored-Δ1, repeats, stored-Δ3}
+use Rattle.steps.proofs.Rows.{row-length}
+use Rattle.steps.proofs.Steps.{agreeing-at-most, step-shift-later}
+use Rattle.progress.proofs.Stored.{begins-room, begins-entry, stored-Δ1-inside, stored-Δ1-entry}
+use Rattle.steps.proofs.Text.{shown-byte, span-length}
+use Rattle.progress.specs.Progress.{Begins, Taken, Compared-so}
+use Rattle.steps.specs.Steps.{row, shifts, step}
+use Rattle.steps.specs.Text.{shown, span}
+
+-- the entry at i is inside the buffer, and it is this value
+pub record Entry-at (buffer : List ℕ) (i value : ℕ) : Type 0 where
+  pub inside : i < length buffer
+  pub value-there : getD buffer i 0 ≡ value
+
+-- the byte that the text shows at the last position, and where Δ1 has its entry
+abbrev pub last-byte : (w t : List ℕ) (b : ℕ) → ℕ
+last-byte w t b = byte t (b + length w - 1)
+
+abbrev pub first-place : (w t : List ℕ) (b s : ℕ) → ℕ
+first-place w t b s = last-byte w t b * length w + s - 1
+
+module _ {w t : List ℕ} (taken : Taken w t) (b : ℕ) where
+  pub first-entry :
+      {delta1 : List ℕ} {s : ℕ} → Begins (stored-Δ1 w) delta1 → b + length w ≤ span w t → 1 ≤ s → s ≤ length w →
+      last-byte w t b < 256 →
+      Entry-at delta1 (first-place w t b s) (Δ1 w (shown t (b + (length w - 1))) s)
+  first-entry {delta1} {s} ready inside positive within l =
+      let some = taken .some in
+      let last : b + length w - 1 ≡ b + (length w - 1) = omega arith in
+      let seen = last-byte w t b in
+      let i = first-place w t b s in
+      let at : i + 1 ≡ seen * length w + s = omega arith in
+      let in-table = stored-Δ1-inside w seen s i l positive within at in
+      let whole = stored-Δ1-length w in
+      let in-text : b + (length w - 1) < length t = omega (arith, span-length w t) in
+      record {
+        inside = omega (arith, begins-room (stored-Δ1 w) delta1 ready);
+        value-there =
+            begins-entry (stored-Δ1 w) delta1 ready i 0 (omega arith)
+            ∙ stored-Δ1-entry w seen s i l positive within at
+            ∙ rw (last, ← shown-byte t (b + (length w - 1)) in-text);
+      }
+
+  pub order-entry :
+      {delta2 : List ℕ} {agreed : ℕ} (s : ℕ) → Begins (Δ2 w) delta2 → Compared-so w t b false agreed → 1 ≤ agreed →
+      Entry-at delta2 agreed (step (shown t) w b s false .shift)
+  unfolding shifts
+  order-entry {delta2} {agreed} s ready ended l =
+      let whole = Δ2-length w (taken .some) in
+      let few : agreed ≤ length w =
+      omega (arith, ended .count, agreeing-at-most (shown t) w b (row w false), row-length w false (taken .some)) in
+      record {
+        inside = omega (arith, begins-room (Δ2 w) delta2 ready);
+        value-there =
+            begins-entry (Δ2 w) delta2 ready agreed 0 (omega arith)
+            ∙ rw (ended .count) (sym (step-shift-later (shown t) w b s false (omega (arith, ended .count))));
+      }
+
+  pub repeat-entry :
+      {delta3 : List ℕ} {agreed : ℕ} (s : ℕ) → Begins (stored-Δ3 w) delta3 → repeats w ≡ true → Compared-so w t b true agreed →
+      1 ≤ agreed → agreed < period w → Entry-at delta3 (length w - 1 - agreed) (step (shown t) w b s true .shift)
+  unfolding shifts
+  repeat-entry {delta3} {agreed} s ready long ended l u =
+      let i = length w - 1 - agreed in
+      let three = repeats-holds w long in
+      let in-table : i < length (stored-Δ3 w) = omega (arith, stored-Δ3-length w) in
+      let stored = stored-Δ3-defined w i (omega arith) (Δ3-defined-at w i long (omega arith) (omega arith)) in
+      record {
+        inside = omega (arith, begins-room (stored-Δ3 w) delta3 ready);
+        value-there =
+            begins-entry (stored-Δ3 w) delta3 ready i 0 in-table
+            ∙ stored
+            ∙ sym (repeat-shifts-entry w agreed l u)
+            ∙ rw (ended .count) (sym (step-shift-later (shown t) w b s true (omega (arith, ended .count))));
+      }
