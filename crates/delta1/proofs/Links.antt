@@ -11,7 +11,7 @@ use lib.ListN.{length, getD, set}
 use lib.Seq.{getD-set-same, getD-set-other}
 use Rattle.tables.proofs.Cases.{eq-or-ne}
 use Rattle.delta1.proofs.Grid.{row-end, rows-apart}
-use Rattle.delta1.specs.Rows.{last-below, Linked, entry, Row-ends}
+use Rattle.delta1.specs.Rows.{Filled, last-below, Linked, entry, Row-ends}
 use Rattle.tables.specs.Sets.{byte}
 
 module _ (w : List ℕ) (c : ℕ) where
@@ -51,9 +51,7 @@ module _ (w : List ℕ) (c : ℕ) where
       (eq-or-ne (byte w i) c)
 
 -- a table that is filled with m has the rows' ends for no position
-pub filled-ends :
-    (w table : List ℕ) → length table ≡ 256 * length w → ((i : ℕ) → i < length table → getD table i 0 ≡ length w) →
-    Row-ends w 0 table
+pub filled-ends : (w table : List ℕ) → length table ≡ 256 * length w → Filled (length w) table → Row-ends w 0 table
 filled-ends w table n filled =
     record {
       ends = λ c x b e. at c x b (omega arith) ∙ omega (arith, last-none w c);

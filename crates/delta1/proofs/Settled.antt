@@ -4,16 +4,18 @@ use mathlib.Core.Bool.{Bool, true, false}
 use mathlib.Core.List.{List}
 use mathlib.Core.Logic.{_≢_, _⊎_, inl, inr, ⊎-elim}
 use mathlib.Core.Path.{_≡_, refl, sym, _∙_}
-use Prim.Native.Nat.{ℕ, _+_, _-_, _≤_, _<_}
+use Prim.Native.Nat.{ℕ, _+_, _*_, _-_, _≤_, _<_}
 use native.Mathlib.Numerals.{add-one}
 use native.Mathlib.Omega.{arith}
-use borrow.Author.Tests.{le-leb, lt-leb, eqb-true, eqb-false, lt-ltb, le-ltb}
+use borrow.Author.Tests.{eq-eqb, ne-eqb, eqb-true, eqb-false, lt-ltb, le-ltb}
+use borrow.Rule.Slice.PartMut.{midOf}
 use lib.ListN.{length, getD}
 use Rattle.tables.proofs.Cases.{le-or-lt, clash}
 use Rattle.tables.proofs.FirstShift.{Δ1-facts}
 use Rattle.delta1.proofs.Links.{last-within, last-above, last-byte}
+use Rattle.delta1.proofs.Parts.{part-entry}
 use Rattle.tables.specs.Facts.{In-neg, Out-neg}
-use Rattle.delta1.specs.Rows.{lowered-if, Reversed, allows, Lowered-row, last-below, last-of, Right-row}
+use Rattle.delta1.specs.Rows.{lowered-if, Reversed, allows, Lowered, last-below, last-of, Right-row}
 use Rattle.tables.specs.Sets.{byte}
 use Rattle.tables.specs.Tables.{Δ1}
 
@@ -21,22 +23,29 @@ use Rattle.tables.specs.Tables.{Δ1}
 abbrev pub Settled : (w : List ℕ) (c at s entry : ℕ) → Type 0
 Settled w c at s e = (e ≡ Δ1 w c s) ⊎ ((e ≡ length w) × (length w ≤ Δ1 w c s + at))
 
--- what the test of a shift tells
-module _ (w v : List ℕ) (k s : ℕ) (r : Reversed w v) where
-  allowed : allows v (length w) k s ≡ true → (g : ℕ) → g + s + 1 ≡ length w → Out-neg w (byte w g) g k
-  allowed e g q l =
-      let same = eqb-true (getD v s 0) (getD v (s + k) 0) (rw (lt-leb (length w) (s + k) (omega arith)) at e) in
-      sym (r (s + k) (g - k) (omega arith)) ∙ sym same ∙ r s g (omega arith)
+-- whether the last shift s allows a shift of k, as the reversed pattern v tells
+abbrev shift-allowed : (v : List ℕ) (k s : ℕ) → Bool
+shift-allowed v k s = allows (getD v (s + k) 0) (getD v s 0)
 
-  refused : allows v (length w) k s ≡ false → (g : ℕ) × (g + s + 1 ≡ length w) × In-neg w (byte w g) g k
-  refused e =
-      let past : length w ≤ s + k → s + k < length w = λ h. absurd (clash true refl (rw (le-leb (length w) (s + k) h) at e)) in
+-- what that tells of the set
+module _ (w v : List ℕ) (k s : ℕ) (r : Reversed w v) where
+  allowed : shift-allowed v k s ≡ true → (g : ℕ) → g + s + 1 ≡ length w → Out-neg w (byte w g) g k
+  allowed e g q l =
+      let is-byte = r .below (s + k) (omega arith) in
+      let same = eqb-true (getD v (s + k) 0) (getD v s 0) (rw (ne-eqb (getD v (s + k) 0) 256 (omega arith)) at e) in
+      sym (r .bytes (s + k) (g - k) (omega arith)) ∙ same ∙ r .bytes s g (omega arith)
+
+  refused : s + k < length v → shift-allowed v k s ≡ false → (g : ℕ) × (g + s + 1 ≡ length w) × In-neg w (byte w g) g k
+  refused b e =
+      let past : length w ≤ s + k → s + k < length w = λ h.
+      absurd (clash true refl (rw (eq-eqb (getD v (s + k) 0) 256 (r .past (s + k) h b)) at e)) in
       let near : s + k < length w = ⊎-elim past (λ h. h) (le-or-lt (length w) (s + k)) in
-      let different = eqb-false (getD v s 0) (getD v (s + k) 0) (rw (lt-leb (length w) (s + k) near) at e) in
+      let is-byte = r .below (s + k) near in
+      let different = eqb-false (getD v (s + k) 0) (getD v s 0) (rw (ne-eqb (getD v (s + k) 0) 256 (omega arith)) at e) in
       let g = length w - s - 1 in (
         g,
         omega arith,
-        (omega arith, λ q. different (r s g (omega arith) ∙ sym q ∙ sym (r (s + k) (g - k) (omega arith)))),
+        (omega arith, λ q. different (r .bytes (s + k) (g - k) (omega arith) ∙ q ∙ sym (r .bytes s g (omega arith)))),
       )
 
 module _ (w : List ℕ) (c s : ℕ) (l : 1 ≤ s) (u : s ≤ length w) where
@@ -62,18 +71,18 @@ module _ (w : List ℕ) (c s : ℕ) (l : 1 ≤ s) (u : s ≤ length w) where
 
   -- position j, which has the byte, lowers the entry to its shift
   settle :
-      (v : List ℕ) (k j e : ℕ) → Reversed w v → 1 ≤ k → k + j + 1 ≡ length w → byte w j ≡ c →
-      Settled w c (j + 1) s e → Settled w c (last-below w c j) s (lowered-if (allows v (length w) k s) k e)
-  settle v k j e r h q b t = go (allows v (length w) k s) refl
+      (v : List ℕ) (k j e : ℕ) → Reversed w v → s + k < length v → 1 ≤ k → k + j + 1 ≡ length w → byte w j ≡ c →
+      Settled w c (j + 1) s e → Settled w c (last-below w c j) s (lowered-if (shift-allowed v k s) k e)
+  settle v k j e r d h q b t = go (shift-allowed v k s) refl
     where
-      go : (z : Bool) → allows v (length w) k s ≡ z → Settled w c (last-below w c j) s (lowered-if z k e)
+      go : (z : Bool) → shift-allowed v k s ≡ z → Settled w c (last-below w c j) s (lowered-if z k e)
       go true a =
           let seen : (g : ℕ) → g + 1 ≡ length w → Out-neg w c g k = λ g i n. let place : g - k ≡ j = omega arith in rw place b in
           let most : Δ1 w c s ≤ k = at-least k h (allowed w v k s r a) seen in
           inl (⊎-elim (λ i. rw (le-ltb k e (omega arith)) i) (λ i. rw (lt-ltb k e (omega arith)) (omega arith)) t)
       -- k is in the first set, and Δ1 is not
       go false a =
-          let (g, n, (inside, different)) = refused w v k s r a in
+          let (g, n, (inside, different)) = refused w v k s r d a in
           let other : Δ1 w c s ≢ k = λ i. different (rw i at (Δ1-facts w c s l u .outside-last g n) inside) in
           ⊎-elim inl (λ i. inr (i .0, beyond k j q (omega arith))) t
 
@@ -98,9 +107,10 @@ row-first {w} {row} {c} {at} h n e begun =
 
 -- position at - 1 lowers the row to its shift, and the next one down is its link
 pub row-next :
-    (v : List ℕ) {w row row' : List ℕ} {c at : ℕ} → Row-settled w c at row → Lowered-row v (length w - at) row row' → Reversed w v →
-    0 < at → Row-settled w c (last-below w c (at - 1)) row'
-row-next v {w} {row} {row'} {c} {at} p q r h =
+    (v : List ℕ) {w row row' : List ℕ} {c at : ℕ} → Row-settled w c at row → 0 < at → Reversed w v → 2 * length w ≤ length v →
+    Lowered (midOf 1 (length w) v) (midOf (length w - at + 1) (length w) v) (length w - at) row row' →
+    Row-settled w c (last-below w c (at - 1)) row'
+row-next v {w} {row} {row'} {c} {at} p h r room q =
     let j = at - 1 in
     let k = length w - at in
     let one-up : at ≡ j + 1 = omega arith in
@@ -110,8 +120,17 @@ row-next v {w} {row} {row'} {c} {at} p q r h =
       next-has = λ i n. last-byte w c j i (n ∙ add-one i);
       settled = λ x b.
           let before = rw one-up at (p .settled x b) in
-          rw (q .changed x (omega arith), p .entries)
-          (settle w c (x + 1) (omega arith) (omega arith) v k j (getD row x 0) r (omega arith) (omega arith) (p .next-has j one-up) before);
+          let one-on : 1 + x ≡ x + 1 = omega arith in
+          let shift-on : k + 1 + x ≡ x + 1 + k = omega arith in
+          rw (
+            q .changed x (omega arith),
+            part-entry 1 (length w) v (omega arith) x b,
+            part-entry (k + 1) (length w) v (omega arith) x b,
+            one-on,
+            shift-on,
+          )
+          (settle w c (x + 1) (omega arith) (omega arith) v k j (getD row x 0) r (omega arith) (omega arith) (omega arith)
+          (p .next-has j one-up) before);
     }
 
 -- with no position left, the row is right

@@ -7,8 +7,7 @@ use native.Mathlib.Nat.{div-add-mod', div-lt-iff-lt-mul, mod-lt}
 use native.Mathlib.Omega.{arith}
 use lib.ListN.{length, getD}
 use lib.Seq.{ext-getD}
-use Rattle.tables.proofs.Order.{stored-Δ1-length}
-use Rattle.tables.proofs.Stored.{stored-entry}
+use Rattle.tables.proofs.Stored.{stored-Δ1-length, stored-entry}
 use Rattle.delta1.specs.Rows.{Right-table}
 use Rattle.tables.specs.Tables.{stored-Δ1}
 

@@ -5,7 +5,7 @@ use mathlib.Core.List.{List}
 use mathlib.Core.Logic.{_⊎_}
 use mathlib.Core.Path.{_≡_}
 use Prim.Native.Nat.{ℕ, zero, suc, _+_, _*_, _-_, _≤_, _<_}
-use lib.Dec.{ltb, leb, eqb}
+use lib.Dec.{ltb, eqb}
 use lib.ListN.{length, getD}
 use Rattle.tables.specs.Sets.{byte}
 use Rattle.tables.specs.Tables.{Δ1}
@@ -20,29 +20,27 @@ pub record Changed (f : (i entry : ℕ) → ℕ) (n : ℕ) (before after : List 
 abbrev pub Each-changed : (f : (i entry : ℕ) → ℕ) → (before after : List ℕ) → Type 0
 Each-changed f before after = Changed f (length before) before after
 
+-- all entries have one value
+abbrev pub Filled : (value : ℕ) → (table : List ℕ) → Type 0
+Filled v table = (x : ℕ) → x < length table → getD table x 0 ≡ v
+
+-- v starts with the pattern (motif) reversed, its last byte first, and goes on with 256, which is no byte
+pub record Reversed (w v : List ℕ) : Type 0 where
+  pub bytes : (x i : ℕ) → x + i + 1 ≡ length w → getD v x 0 ≡ byte w i
+  pub below : (x : ℕ) → x < length w → getD v x 0 < 256
+  pub past : (x : ℕ) → length w ≤ x → x < length v → getD v x 0 ≡ 256
+
+-- whether a shift may move a to where b is known: a is the same byte, or is past the pattern
+abbrev pub allows : (a b : ℕ) → Bool
+allows a b = eqb a 256 || eqb a b
+
 -- an entry that is lowered to k if a test holds, and if it is larger than k
 abbrev pub lowered-if : (test : Bool) → (k entry : ℕ) → ℕ
 lowered-if t k e = cond (t && ltb k e) k e
 
--- each entry of a row is lowered to k if the test of its index holds
-abbrev pub Lowered : (test : ℕ → Bool) → (k : ℕ) → (before after : List ℕ) → Type 0
-Lowered t k before after = Each-changed (λ x e. lowered-if (t x) k e) before after
-
--- two lists of bytes are equal at x
-abbrev pub equal-at : (bytes others : List ℕ) → (x : ℕ) → Bool
-equal-at bytes others x = eqb (byte bytes x) (byte others x)
-
--- v starts with the pattern (motif) reversed: its last byte comes first
-abbrev pub Reversed : (w v : List ℕ) → Type 0
-Reversed w v = (x i : ℕ) → x + i + 1 ≡ length w → getD v x 0 ≡ byte w i
-
--- whether the last shift s allows a shift of k: in the reversed pattern v, that puts a byte equal to v(s) where v(s) stands, or none
-abbrev pub allows : (v : List ℕ) → (m k s : ℕ) → Bool
-allows v m k s = leb m (s + k) || eqb (getD v s 0) (getD v (s + k) 0)
-
--- a row is lowered to the shift k wherever the last shift allows that; entry x is for a last shift of x + 1
-abbrev pub Lowered-row : (v : List ℕ) → (k : ℕ) → (before after : List ℕ) → Type 0
-Lowered-row v k before after = Lowered (λ x. allows v (length before) k (x + 1)) k before after
+-- each entry of a row is lowered to the shift k if that may move what stands in `moved` to where `known` has its byte
+abbrev pub Lowered : (known moved : List ℕ) → (k : ℕ) → (before after : List ℕ) → Type 0
+Lowered known moved k before after = Each-changed (λ x e. lowered-if (allows (getD moved x 0) (getD known x 0)) k e) before after
 
 -- the last position below i that has the byte c, plus one; 0 if there is none
 unfoldable pub last-below : (w : List ℕ) → (c i : ℕ) → ℕ
@@ -78,7 +76,7 @@ pub record Row-begun (w reversed last : List ℕ) (position : ℕ) (row : List �
   pub short : length w ≤ 128
   pub within : position + 1 < length w
   pub is-last : last-of w (byte w position) ≡ position + 1
-  pub reversed-room : length w ≤ length reversed
+  pub reversed-room : 2 * length w ≤ length reversed
   pub is-reversed : Reversed w reversed
   pub links-room : length w ≤ length last
   pub linked : Linked w (length w - 1) last
@@ -92,7 +90,7 @@ Right-row w c row = (x : ℕ) → x < length w → getD row x 0 ≡ Δ1 w c (x +
 -- all rows are to be written: their ends and the links are right
 pub record Rows-begun (w reversed last table : List ℕ) : Type 0 where
   pub sizes : Sizes w last table
-  pub reversed-room : length w ≤ length reversed
+  pub reversed-room : 2 * length w ≤ length reversed
   pub is-reversed : Reversed w reversed
   pub linked : Linked w (length w - 1) last
   pub ends : Row-ends w (length w - 1) table

@@ -1,14 +1,16 @@
 // Δ1 of a pattern (motif), a row of m entries for each byte. Every entry starts as m; then each position below m - 1 lowers the row of its
 // own byte to its shift, the distance from m - 1, wherever the last shift allows that.
-ghost use mathlib.Core.Bool.{true};
 ghost use mathlib.Core.Path.{_≡_};
 ghost use Prim.Native.Nat.{_*_, _-_, _≤_, _<_};
 ghost use lib.ListN.{length};
 ghost use Rattle.answers.specs.Buffers.{in-front};
-ghost use Rattle.delta1.specs.Rows.{Each-changed, Lowered, equal-at, Lowered-row, Reversed};
+ghost use Rattle.delta1.specs.Rows.{Each-changed, Filled, Reversed, Lowered};
 ghost use Rattle.delta1.specs.Rows.{Linked, Sizes, Row-ends, Row-begun, Right-row, Rows-begun, Right-table};
 ghost use Rattle.tables.specs.Sets.{byte};
 ghost use Rattle.tables.specs.Tables.{stored-Δ1};
+
+// What stands past the end of the reversed pattern. No byte has this value.
+const PAST: u16 = 256;
 
 // Fills a table with one value.
 fn fill(table: &mut [u16], value: u16)
@@ -19,14 +21,15 @@ fn fill(table: &mut [u16], value: u16)
     }
 }
 
-// Copies the pattern backwards, its last byte first.
-fn reverse(pattern: &[u8], reversed: &mut [u8])
+// Copies the pattern backwards, its last byte first, in front of what the table is filled with.
+fn reverse(pattern: &[u8], reversed: &mut [u16])
     requires { ⌜ length (now pattern) ≤ length (now reversed) ⌝ }
+    requires { ⌜ Filled 256 (now reversed) ⌝ }
     ensures { λ _. ⌜ Reversed (now (pattern .entry)) (now (reversed .exit)) ⌝ }
 {
     let m = pattern.len();
     for i in 0..m {
-        reversed[i] = pattern[m - 1 - i];
+        reversed[i] = pattern[m - 1 - i] as u16;
     }
 }
 
@@ -46,25 +49,16 @@ fn link(pattern: &[u8], last: &mut [u8], table: &mut [u16])
     }
 }
 
-// Lowers each entry that is larger than `shift` to `shift`.
-fn lower(shift: u16, row: &mut [u16])
-    ensures { λ _. ⌜ Lowered (λ x. true) shift (now (row .entry)) (now (row .exit)) ⌝ }
+// Lowers each entry that is larger than `shift` to `shift`, if at its index `moved` has the byte of `known` or is past the pattern.
+fn lower(known: &[u16], moved: &[u16], shift: u16, row: &mut [u16])
+    requires { ⌜ length (now known) ≡ length (now row) ⌝ }
+    requires { ⌜ length (now moved) ≡ length (now row) ⌝ }
+    ensures { λ _. ⌜ Lowered (now (known .entry)) (now (moved .entry)) shift (now (row .entry)) (now (row .exit)) ⌝ }
 {
     for i in 0..row.len() {
         let entry = row[i];
-        row[i] = if shift < entry { shift } else { entry };
-    }
-}
-
-// Lowers each entry that is larger than `shift` to `shift`, if `bytes` and `others` are equal at its index.
-fn lower_where_equal(bytes: &[u8], others: &[u8], shift: u16, row: &mut [u16])
-    requires { ⌜ length (now bytes) ≡ length (now row) ⌝ }
-    requires { ⌜ length (now others) ≡ length (now row) ⌝ }
-    ensures { λ _. ⌜ Lowered (equal-at (now (bytes .entry)) (now (others .entry))) shift (now (row .entry)) (now (row .exit)) ⌝ }
-{
-    for i in 0..row.len() {
-        let entry = row[i];
-        row[i] = if bytes[i] == others[i] && shift < entry {
+        let allowed = (moved[i] == PAST) | (moved[i] == known[i]);
+        row[i] = if allowed & (shift < entry) {
             shift
         } else {
             entry
@@ -72,40 +66,26 @@ fn lower_where_equal(bytes: &[u8], others: &[u8], shift: u16, row: &mut [u16])
     }
 }
 
-// Lowers a row to `shift` wherever the last shift allows that. Entry x is for a last shift of x + 1: the reversed pattern must have equal
-// bytes at x + 1 and at x + 1 + shift, if it is long enough.
-fn lower_row(reversed: &[u8], shift: usize, row: &mut [u16])
-    requires { ⌜ length (now row) ≤ length (now reversed) ⌝ }
-    requires { ⌜ shift < length (now row) ⌝ }
-    requires { ⌜ length (now row) ≤ 128 ⌝ }
-    ensures { λ _. ⌜ Lowered-row (now (reversed .entry)) shift (now (row .entry)) (now (row .exit)) ⌝ }
-{
-    let m = row.len();
-    let front = m - shift - 1;
-    lower_where_equal(
-        &reversed[1..front + 1],
-        &reversed[shift + 1..m],
-        shift as u16,
-        &mut row[..front],
-    );
-    lower(shift as u16, &mut row[front..]);
-}
-
 // Writes the row of the byte at `position`, which is the last position below m - 1 that has it: this one and each that the links lead to
-// lower the row to their shifts.
-fn write_row(pattern: &[u8], reversed: &[u8], last: &[u8], position: usize, row: &mut [u16])
+// lower the row to their shifts, wherever the last shift allows that. Entry x is for a last shift of x + 1: the reversed pattern must have
+// equal bytes at x + 1 and at x + 1 + shift, if it is long enough.
+fn write_row(pattern: &[u8], reversed: &[u16], last: &[u8], position: usize, row: &mut [u16])
     requires { ⌜ Row-begun (now pattern) (now reversed) (now last) position (now row) ⌝ }
     ensures { λ _. ⌜ Right-row (now (pattern .entry)) (byte (now (pattern .entry)) position) (now (row .exit)) ⌝ }
 {
+    let m = pattern.len();
+    let known = &reversed[1..m + 1];
     let mut at = position + 1;
     while at > 0 {
-        lower_row(reversed, pattern.len() - at, row);
+        let shift = m - at;
+        let moved = &reversed[shift + 1..shift + 1 + m];
+        lower(known, moved, shift as u16, row);
         at = last[at] as usize;
     }
 }
 
 // Writes the row of each byte that the pattern has below m - 1, once, at the last position that has it: the row's end tells which that is.
-fn write_rows(pattern: &[u8], reversed: &[u8], last: &[u8], table: &mut [u16])
+fn write_rows(pattern: &[u8], reversed: &[u16], last: &[u8], table: &mut [u16])
     requires { ⌜ Rows-begun (now pattern) (now reversed) (now last) (now table) ⌝ }
     ensures { λ _. ⌜ Right-table (now (pattern .entry)) (now (table .exit)) ⌝ }
 {
@@ -126,7 +106,7 @@ fn write_table(pattern: &[u8], table: &mut [u16])
     requires { ⌜ length (now table) ≡ 256 * length (now pattern) ⌝ }
     ensures { λ _. ⌜ now (table .exit) ≡ stored-Δ1 (now (pattern .entry)) ⌝ }
 {
-    let mut reversed: [u8; 129] = [0; 129];
+    let mut reversed: [u16; 256] = [PAST; 256];
     let mut last: [u8; 129] = [0; 129];
     reverse(pattern, &mut reversed);
     fill(table, pattern.len() as u16);

@@ -16,7 +16,7 @@ use Rattle.tables.proofs.Periods.{period-facts}
 use Rattle.tables.proofs.Rooms.{tables-fit, tables-kept, tables-done}
 use Rattle.tables.specs.Buffers.{Tables, lengths, Tables-fit, table-refusal, measured-status, Tables-written}
 use Rattle.tables.specs.declared.TableLengths.{TableLengths}
-use Rattle.tables.specs.Tables.{period, stored-order, Δ2, stored-Δ1, stored-Δ3}
+use Rattle.tables.specs.Tables.{period, stored-order, stored-Δ2, stored-Δ1, stored-Δ3}
 use Rattle.steps.proofs.Occurrences.{occurrences-few}
 use Rattle.steps.proofs.Text.{span-length}
 use Rattle.steps.specs.Bound.{bound}
@@ -70,7 +70,7 @@ module _ {w t : List ℕ} {lent : Tables} {found : List ℕ} where
           order-ready = rw (written .order) (in-front-take (stored-order w) (lent .order) _ refl);
           shifts = record {
             taken = record { some = r .tables .taken .some; few = r .tables .taken .few; text = r .text };
-            delta2-ready = rw (written .delta2) (in-front-take (Δ2 w) (lent .delta2) _ refl);
+            delta2-ready = rw (written .delta2) (in-front-take (stored-Δ2 w) (lent .delta2) _ refl);
             delta1-ready = rw (written .delta1) (in-front-take (stored-Δ1 w) (lent .delta1) _ refl);
             delta3-ready = rw (written .delta3) (in-front-take (stored-Δ3 w) (lent .delta3) _ refl);
             room = r .room;

@@ -1,11 +1,11 @@
-// Preparing a pattern: Colussi's tables in the caller's buffers.
+// Preparing a pattern: its tables in the caller's buffers.
 ghost use mathlib.Core.Path.{_≡_};
 ghost use Prim.Native.Nat.{_+_, _≤_};
 ghost use lib.ListN.{length};
 ghost use Rattle.answers.specs.Buffers.{in-front};
 ghost use Rattle.tables.specs.Buffers.{Pattern-taken, tables, Tables-fit, Tables-written};
 ghost use Rattle.tables.specs.Prepare.{Prepare-outcome};
-ghost use Rattle.tables.specs.Tables.{stored-order, Δ2, stored-Δ3, period};
+ghost use Rattle.tables.specs.Tables.{stored-order, stored-Δ2, stored-Δ3, period};
 use answers::Answer;
 use tables::TableLengths;
 
@@ -17,7 +17,7 @@ fn write_order_and_shifts(pattern: &[u8], order: &mut [i16], delta2: &mut [u16],
     requires { ⌜ length (now pattern) + 1 ≤ length (now delta2) ⌝ }
     requires { ⌜ length (now pattern) ≤ length (now delta3) ⌝ }
     ensures { λ r. ⌜ now (order .exit) ≡ in-front (stored-order (now (pattern .entry))) (now (order .entry)) ⌝ }
-    ensures { λ r. ⌜ now (delta2 .exit) ≡ in-front (Δ2 (now (pattern .entry))) (now (delta2 .entry)) ⌝ }
+    ensures { λ r. ⌜ now (delta2 .exit) ≡ in-front (stored-Δ2 (now (pattern .entry))) (now (delta2 .entry)) ⌝ }
     ensures { λ r. ⌜ now (delta3 .exit) ≡ in-front (stored-Δ3 (now (pattern .entry))) (now (delta3 .entry)) ⌝ }
 {
     let mut h_min: [i16; 129] = [0; 129];

@@ -6,11 +6,11 @@ use mathlib.Core.Path.{_≡_, sym, _∙_}
 use Prim.Native.Nat.{ℕ, _+_, _*_, _-_, _≤_, _<_}
 use native.Mathlib.Omega.{arith}
 use lib.ListN.{length, getD}
-use Rattle.tables.proofs.Order.{Δ2-length, stored-Δ1-length}
 use Rattle.tables.proofs.RepeatRow.{repeats-holds, repeat-shifts-entry}
 use Rattle.tables.proofs.RepeatShift.{Δ3-defined-at, stored-Δ3-length, stored-Δ3-defined}
+use Rattle.tables.proofs.Stored.{stored-Δ2-length, stored-Δ1-length}
 use Rattle.tables.specs.Sets.{byte}
-use Rattle.tables.specs.Tables.{period, Δ1, Δ2, stored-Δ1, repeats, stored-Δ3}
+use Rattle.tables.specs.Tables.{period, Δ1, stored-Δ2, stored-Δ1, repeats, stored-Δ3}
 use Rattle.steps.proofs.Rows.{row-length}
 use Rattle.steps.proofs.Steps.{agreeing-at-most, step-shift-later}
 use Rattle.progress.proofs.Stored.{begins-room, begins-entry, stored-Δ1-inside, stored-Δ1-entry}
@@ -54,17 +54,17 @@ module _ {w t : List ℕ} (taken : Taken w t) (b : ℕ) where
       }
 
   pub order-entry :
-      {delta2 : List ℕ} {agreed : ℕ} (s : ℕ) → Begins (Δ2 w) delta2 → Compared-so w t b false agreed → 1 ≤ agreed →
+      {delta2 : List ℕ} {agreed : ℕ} (s : ℕ) → Begins (stored-Δ2 w) delta2 → Compared-so w t b false agreed → 1 ≤ agreed →
       Entry-at delta2 agreed (step (shown t) w b s false .shift)
   unfolding shifts
   order-entry {delta2} {agreed} s ready ended l =
-      let whole = Δ2-length w (taken .some) in
+      let whole = stored-Δ2-length w in
       let few : agreed ≤ length w =
       omega (arith, ended .count, agreeing-at-most (shown t) w b (row w false), row-length w false (taken .some)) in
       record {
-        inside = omega (arith, begins-room (Δ2 w) delta2 ready);
+        inside = omega (arith, begins-room (stored-Δ2 w) delta2 ready);
         value-there =
-            begins-entry (Δ2 w) delta2 ready agreed 0 (omega arith)
+            begins-entry (stored-Δ2 w) delta2 ready agreed 0 (omega arith)
             ∙ rw (ended .count) (sym (step-shift-later (shown t) w b s false (omega (arith, ended .count))));
       }
 

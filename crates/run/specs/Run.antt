@@ -5,7 +5,7 @@ use Prim.Native.Nat.{ℕ, _≤_}
 use lib.IntN.{ℤ}
 use lib.ListN.{length}
 use Rattle.answers.specs.Buffers.{in-front}
-use Rattle.tables.specs.Tables.{stored-order, Δ2, stored-Δ1, stored-Δ3}
+use Rattle.tables.specs.Tables.{stored-order, stored-Δ2, stored-Δ1, stored-Δ3}
 use Rattle.steps.specs.Occurrences.{occurrences}
 use Rattle.steps.specs.Steps.{comparisons}
 use Rattle.progress.specs.Progress.{Begins, Taken}
@@ -14,7 +14,7 @@ use Rattle.run.specs.declared.Counts.{Counts}
 -- a pattern and a text that are taken, with the tables of shifts in front of their buffers, and room for the occurrences
 pub record Shifts-ready (w t delta2 delta1 delta3 found : List ℕ) : Type 0 where
   pub taken : Taken w t
-  pub delta2-ready : Begins (Δ2 w) delta2
+  pub delta2-ready : Begins (stored-Δ2 w) delta2
   pub delta1-ready : Begins (stored-Δ1 w) delta1
   pub delta3-ready : Begins (stored-Δ3 w) delta3
   pub room : length t ≤ length found

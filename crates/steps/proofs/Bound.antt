@@ -12,6 +12,7 @@ use lib.Dec.{eqb}
 use lib.ListN.{length}
 use Rattle.tables.proofs.Cases.{true-or-false, le-or-lt, clash}
 use Rattle.tables.proofs.FirstShift.{Δ1-facts}
+use Rattle.tables.proofs.LaterShift.{later-shift-few}
 use Rattle.tables.proofs.LongShifts.{repeat-shift-long, first-shift-long}
 use Rattle.tables.proofs.Periods.{period-facts}
 use Rattle.tables.proofs.RepeatRow.{repeats-holds}
@@ -97,7 +98,7 @@ module _ (f : ℕ → ℕ) (w : List ℕ) (nonempty : 1 ≤ length w) where
       covered-differing false i k listed (omega (arith, row-some w false nonempty)) (omega arith)
   covered b s true begun positive ends (order-differed r l u facts) listed = absurd (true≢false r)
   covered b s false begun {i} {k} positive ends (order-differed r l u facts) listed =
-      covered-differing false i k listed (omega (arith, row-length w false nonempty)) (omega (arith, facts .few u))
+      covered-differing false i k listed (omega (arith, row-length w false nonempty)) (omega (arith, later-shift-few w nonempty l u facts))
   covered b s false begun positive ends (repeat-differed r l u facts) listed = absurd (true≢false (sym r))
   covered b s true begun {i} {k} positive ends (repeat-differed r l u facts) listed =
       let long = repeats-holds w (begun refl .0) in

@@ -9,9 +9,10 @@ use native.Mathlib.Nat.{eq-or-lt-of-le}
 use native.Mathlib.Omega.{arith}
 use lib.ListN.{length, getD}
 use Rattle.tables.proofs.Cases.{le-or-lt}
-use Rattle.tables.proofs.LaterShift.{Δ2-facts}
+use Rattle.tables.proofs.LaterShift.{Δ2-facts, Δ2-end}
 use Rattle.tables.proofs.RepeatRow.{repeat-shifts-entry, repeat-shifts-end}
 use Rattle.tables.proofs.RepeatShift.{Δ3-facts}
+use Rattle.tables.proofs.Stored.{stored-Δ2-entry}
 use Rattle.tables.specs.Facts.{Later-shift, Repeat-shift}
 use Rattle.tables.specs.Tables.{period, Δ1}
 use Rattle.steps.proofs.Rows.{row-length, row-some}
@@ -32,11 +33,12 @@ module _ (f : ℕ → ℕ) (w : List ℕ) (b s : ℕ) (nonempty : 1 ≤ length w
   unfolding shifts
   later false i l u =
       let whole = row-length w false nonempty in
-      let facts = Δ2-facts w nonempty i l (omega (arith, whole)) in
-      ⊎-elim
-      (λ e. all-agreed e (facts .whole (e ∙ whole)))
-      (λ q. order-differed refl l (omega (arith, whole)) facts)
-      (eq-or-lt-of-le u)
+      let few : i ≤ length w = omega (arith, whole) in
+      rw (stored-Δ2-entry w i l few)
+      (⊎-elim
+      (λ e. let end = e ∙ whole in all-agreed e (rw end (Δ2-end w nonempty)))
+      (λ q. order-differed refl l (omega (arith, whole)) (Δ2-facts w nonempty i few))
+      (eq-or-lt-of-le u))
   later true i l u =
       let whole = row-length w true nonempty in
       ⊎-elim

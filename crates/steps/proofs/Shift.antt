@@ -11,8 +11,8 @@ use lib.Dec.{eqb}
 use lib.ListN.{length, getD}
 use Rattle.tables.proofs.Cases.{true-or-false, le-or-lt}
 use Rattle.tables.proofs.FirstShift.{Δ1-facts}
+use Rattle.tables.proofs.Groups.{order-first}
 use Rattle.tables.proofs.HMin.{period-outside}
-use Rattle.tables.proofs.LaterShift.{differing}
 use Rattle.tables.proofs.Order.{order-length, order-stands}
 use Rattle.tables.proofs.Periods.{period-facts, period-refutes}
 use Rattle.tables.proofs.RepeatRow.{repeat-row-length, repeat-row-entry}
@@ -152,7 +152,7 @@ module _
       (no-repeat (omega (arith, row-some w repeat nonempty))))
   carried here (order-differed r l u facts) =
       let (agrees, at) = last-seen here l in
-      carried-by _ (facts .positive) (facts .within) at (rw agrees at (facts .outside-last last (omega arith)))
+      carried-by _ (facts .positive) (facts .within) at (rw agrees at (rw (order-first w) at (facts .outside-agreed 0 l)))
       (no-repeat (omega (arith, ap length (row-order w r), order-length w nonempty)))
   carried {i} here (repeat-differed r l u facts) =
       let (agrees, at) = last-seen here l in
@@ -180,14 +180,13 @@ module _
       (λ (g, e, n). seen-spoils g j (omega arith) (before g (known .seen g e)) n)
       (λ (g, e, n). let same : g ≡ last = omega arith in spoilt-by last j (omega arith) (last-compared here) (rw same at n))
       (first-facts .least j l (omega arith))
-  spoilt {i} here (order-differed r v t facts) j l u = go (facts .refuted j l u)
+  spoilt {i} here (order-differed r v t facts) j l u = go (facts .least j l u)
     where
       go : Refuted w i j → Spoilt f w all (b + j)
       go (by-agreed x a n) =
           let at : entry x ≡ getD (order w) x 0 = ap (λ (o : List ℕ). getD o x 0) (row-order w r) in
           seen-spoils (entry x) j (row-below w repeat nonempty x (omega (arith, here .ends .within))) (seen-at here x a) (rw (sym at) at n)
-      go (by-differing e) =
-          let (q, (n, same)) = differing w nonempty i j (omega arith) e in
+      go (by-differing q (n, same)) =
           let at : entry i ≡ getD (order w) i 0 = ap (λ (o : List ℕ). getD o i 0) (row-order w r) in
           let inside : i < length (row w repeat) = omega (arith, ap length (row-order w r), order-length w nonempty) in
           let differs = rw at at (here .ends .differ inside) in

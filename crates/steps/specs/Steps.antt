@@ -6,7 +6,7 @@ use Prim.Native.Nat.{ℕ, zero, suc, _+_, _-_}
 use lib.Dec.{leb, eqb}
 use lib.ListN.{length, getD, take}
 use Rattle.tables.specs.Sets.{byte}
-use Rattle.tables.specs.Tables.{order, Δ1, Δ2, repeats, repeat-row, repeat-shifts}
+use Rattle.tables.specs.Tables.{order, Δ1, stored-Δ2, repeats, repeat-row, repeat-shifts}
 use Rattle.steps.specs.Text.{shown, span}
 
 -- a look: one comparison, known by its pattern position (motif place) i and its text position (chain place) b + i
@@ -41,7 +41,7 @@ row w repeat = cond repeat (repeat-row w) (order w)
 
 -- the shifts beside it, at the number that agreed: Δ2, or in a repeat Δ3 of the position that differs, and p where all agree
 unfoldable pub shifts : (w : List ℕ) → (repeat : Bool) → List ℕ
-shifts w repeat = cond repeat (repeat-shifts w) (Δ2 w)
+shifts w repeat = cond repeat (repeat-shifts w) (stored-Δ2 w)
 
 -- one step at b, s the last shift, in a repeat p: look at m - 1; if it differs, s becomes Δ1(byte seen, s); if it agrees, look at the others of
 -- the row until one differs or all agree, and s becomes the shift beside it: Δ2(i) for h(i), i = m + 1 where all agree, stored at i - 1; in a

@@ -110,8 +110,3 @@ outside-fails w c i k e = neg-iff w c i k .0 (not-false (Neg w c (pos i) k) e)
 pub outside-empty : (w : List ℕ) (c i k : ℕ) → outside (Neg w c (negsuc i)) k ≡ true
 unfolding Neg
 outside-empty w c i k = refl
-
--- so is Pos
-pub pos-empty : (w : List ℕ) (c i k : ℕ) → Pos w c (negsuc i) k ≡ false
-unfolding Pos
-pos-empty w c i k = refl

@@ -1,23 +1,23 @@
--- The order has each position once, by rising rank, and what stands before an entry; and the sizes of the tables that are stored.
+-- The order has each position once, by rising rank, and what stands before an entry; and the size of the order as it is stored.
 -- The order is a run of ranks: m - 1 has rank 0, a position of the second group its k_min, and one of the third m + 1 more than itself.
 use mathlib.Core.Bool.{Bool, true, false, _&&_, cond, and-eq-true-iff}
 use mathlib.Core.List.{List}
 use mathlib.Core.Logic.{_≢_, ⊎-elim}
-use mathlib.Core.Path.{_≡_, refl, sym, _∙_, ap}
-use Prim.Native.Nat.{ℕ, zero, suc, _+_, _*_, _-_, _≤_, _<_, min}
+use mathlib.Core.Path.{_≡_, refl, sym, _∙_}
+use Prim.Native.Nat.{ℕ, zero, suc, _+_, _-_, _≤_, _<_, min}
 use native.Mathlib.Nat.{eq-or-lt-of-le}
 use native.Mathlib.Omega.{arith}
 use borrow.Author.Tests.{ltb-true, eqb-true, eqb-false, lt-ltb, le-leb, lt-leb, eq-eqb, ne-eqb}
 use lib.Dec.{ltb, leb, eqb}
 use lib.ListN.{length, getD, length-append, length-map}
-use Rattle.tables.proofs.Cases.{clash}
+use Rattle.tables.proofs.Cases.{le-or-lt, clash}
 use Rattle.tables.proofs.KMin.{k-min-cases, k-min-unique, no-k-min-unique}
 use Rattle.tables.proofs.Periods.{period-facts, k-min-below-period}
-use Rattle.tables.proofs.Runs.{Run, end, entry, run-append, run-if, run-never, run-once, run-at}
-use Rattle.tables.proofs.Times.{Stands, times-stands, length-once}
+use Rattle.tables.proofs.Runs.{Run, end, entry, run-append, run-if, run-never, run-once, run-rises, run-at}
+use Rattle.tables.proofs.Times.{Stands, times-stands, stands-twice, length-once}
 use Rattle.tables.specs.Facts.{K-min, No-k-min}
 use Rattle.tables.specs.Promises.{times, Order-whole}
-use Rattle.tables.specs.Tables.{h-min, k-min, period, second-group-from, second-group, third-group-from, third-group, order, stored-order, Δ2, stored-Δ1-from, stored-Δ1}
+use Rattle.tables.specs.Tables.{h-min, k-min, period, second-group-from, second-group, third-group-from, third-group, order, stored-order}
 
 -- v is the rank of position h in the order: m - 1 comes first, then the second group by rising k_min, then the third by rising h
 pub data Rank (w : List ℕ) (v h : ℕ) : Type 0 where
@@ -96,11 +96,11 @@ third-run w (suc n) i v u z =
     never d h (third e b n) = let same : h ≡ i = omega arith in d (no-k-min-unique w i (rw same at n) (omega arith))
 
 -- the groups and the order by rising rank
-pub second-entries : (w : List ℕ) → Run (Rank w) (suc (length w)) 1 (second-group w)
+second-entries : (w : List ℕ) → Run (Rank w) (suc (length w)) 1 (second-group w)
 unfolding second-group
 second-entries w = second-run w (length w) 1 (omega arith) (omega arith)
 
-pub third-entries : (w : List ℕ) → 1 ≤ length w → Run (Rank w) (ranks w) (suc (length w)) (third-group w)
+third-entries : (w : List ℕ) → 1 ≤ length w → Run (Rank w) (ranks w) (suc (length w)) (third-group w)
 unfolding third-group
 third-entries w b = third-run w (length w - 1) 0 (suc (length w)) (omega arith) (omega arith)
 
@@ -136,6 +136,35 @@ order-length w b = order-whole w b .0
 pub order-stands : (w : List ℕ) → 1 ≤ length w → (i : ℕ) → i < length w → Stands (order w) (length (order w)) i
 order-stands w b i u = times-stands i (order w) (omega (arith, order-once w i u))
 
+-- and no two entries are the same
+pub order-distinct : (w : List ℕ) → 1 ≤ length w → (x y : ℕ) → x < y → y < length w → getD (order w) x 0 ≢ getD (order w) y 0
+order-distinct w b x y l u e =
+    let i = getD (order w) y 0 in
+    let whole = order-length w b in
+    let twice = stands-twice i (order w) x y l (omega arith) e refl in
+    ⊎-elim
+    (λ past. omega (arith, run-never i (order-entries w b) (λ v a r. omega (arith, rank-below w r))))
+    (λ in-pattern. omega (arith, order-once w i in-pattern))
+    (le-or-lt (length w) i)
+
+-- after an entry of the third group there are only such
+pub third-follows :
+    (w : List ℕ) → 1 ≤ length w → (i : ℕ) → 1 ≤ i → suc i < length w → k-min w (getD (order w) i 0) ≡ 0 → k-min w (getD (order w) (suc i) 0) ≡ 0
+unfolding order
+third-follows w b i l u none =
+    let (v, v', rises, here, next) = run-rises (order-entries w b) i (omega (arith, order-length w b)) in
+    go rises here next
+  where
+    not-last : suc (getD (order w) i 0) ≢ length w
+    not-last e = order-distinct w b 0 i l (omega arith) (omega arith)
+
+    go : {v v' : ℕ} → v < v' → Rank w v (getD (order w) i 0) → Rank w v' (getD (order w) (suc i) 0) → k-min w (getD (order w) (suc i) 0) ≡ 0
+    go rises (last z e) next = absurd (not-last e)
+    go rises (second e r) next = absurd (omega (arith, r .positive, k-min-unique w _ _ r (omega arith)))
+    go rises (third z e n) (last z' e') = absurd (omega arith)
+    go rises (third z e n) (second e' r) = absurd (omega (arith, r .within))
+    go rises (third z e n) (third z' e' n') = no-k-min-unique w _ n' (omega arith)
+
 -- the order's entry at i: its rank v has room for i before it, k_min being below the period, and the positions of smaller ranks stand there
 pub order-at :
     (w : List ℕ) → 1 ≤ length w → (i : ℕ) → i < length (order w) →
@@ -159,20 +188,7 @@ pub groups-length : (w : List ℕ) → 1 ≤ length w → length (second-group w
 unfolding order
 groups-length w b = omega (arith, order-length w b, length-append (second-group w) (third-group w))
 
--- the tables as they are stored
+-- the order as it is stored
 pub stored-order-length : (w : List ℕ) → 1 ≤ length w → length (stored-order w) ≡ length w + 1
 unfolding stored-order
 stored-order-length w b = simp (length-append, length-map) (omega (arith, order-length w b))
-
-pub Δ2-length : (w : List ℕ) → 1 ≤ length w → length (Δ2 w) ≡ length w + 1
-unfolding Δ2
-Δ2-length w b = simp (length-append, length-map) (omega (arith, groups-length w b))
-
-stored-Δ1-from-length : (n i : ℕ) (w : List ℕ) → length (stored-Δ1-from n i w) ≡ n
-unfolding stored-Δ1-from
-stored-Δ1-from-length zero i w = refl
-stored-Δ1-from-length (suc n) i w = ap suc (stored-Δ1-from-length n (suc i) w)
-
-pub stored-Δ1-length : (w : List ℕ) → length (stored-Δ1 w) ≡ 256 * length w
-unfolding stored-Δ1
-stored-Δ1-length w = stored-Δ1-from-length (256 * length w) 0 w

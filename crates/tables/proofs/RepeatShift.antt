@@ -3,8 +3,8 @@
 use mathlib.Core.Bool.{Bool, true, false, _&&_, not, cond, and-eq-true-iff}
 use mathlib.Core.List.{List}
 use mathlib.Core.Logic.{_⊎_, inl, inr, ⊎-elim}
-use mathlib.Core.Path.{_≡_, refl, ap}
-use Prim.Native.Nat.{ℕ, zero, suc, _+_, _-_, _≤_, _<_}
+use mathlib.Core.Path.{_≡_, ap}
+use Prim.Native.Nat.{ℕ, suc, _+_, _-_, _≤_, _<_}
 use native.Mathlib.Omega.{arith}
 use borrow.Author.Tests.{leb-true, le-leb, not-true, not-false}
 use lib.Dec.{leb}
@@ -13,10 +13,11 @@ use lib.ListN.{length, getD}
 use Rattle.tables.proofs.Cases.{true-or-false, clash, and-fails}
 use Rattle.tables.proofs.Least.{least-facts, least-found, all-each, each-all, some-fails, pos-iff, outside-iff, outside-fails}
 use Rattle.tables.proofs.RepeatRow.{repeats-holds, period-positive}
+use Rattle.tables.proofs.Stored.{values-length, values-entry}
 use Rattle.tables.specs.Facts.{In-pos, In-neg, Out-neg, Known, Repeat-shift}
 use Rattle.tables.specs.Least.{all-from}
 use Rattle.tables.specs.Sets.{byte, outside, Pos, Neg}
-use Rattle.tables.specs.Tables.{period, repeats, Δ3, Δ3-defined, stored-Δ3-from, stored-Δ3}
+use Rattle.tables.specs.Tables.{period, repeats, Δ3, Δ3-defined, stored-Δ3}
 
 -- k is outside Pos(w(i), i)
 abbrev moves : (w : List ℕ) (i k : ℕ) → Bool
@@ -129,27 +130,15 @@ unfolding Δ3-defined
     (some, omega arith, omega (arith, period-positive w))
 
 -- the table as it is stored
-stored-length-from : (n i : ℕ) (w : List ℕ) → length (stored-Δ3-from n i w) ≡ n
-unfolding stored-Δ3-from
-stored-length-from zero i w = refl
-stored-length-from (suc n) i w = ap suc (stored-length-from n (suc i) w)
-
 pub stored-Δ3-length : (w : List ℕ) → length (stored-Δ3 w) ≡ length w
 unfolding stored-Δ3
-stored-Δ3-length w = stored-length-from (length w) 0 w
-
-stored-entry-from :
-    (n i j : ℕ) (w : List ℕ) → j < n → getD (stored-Δ3-from n i w) j 0 ≡ cond (Δ3-defined w (i + j)) (Δ3 w (i + j)) 0
-unfolding stored-Δ3-from
-stored-entry-from zero i j w h = absurd (omega arith)
-stored-entry-from (suc n) i zero w h = let here : i + 0 ≡ i = omega arith in rw here
-stored-entry-from (suc n) i (suc j) w h =
-    let later : suc i + j ≡ i + suc j = omega arith in
-    rw later at (stored-entry-from n (suc i) j w (omega arith))
+stored-Δ3-length w = values-length (length w) 0 _
 
 pub stored-Δ3-entry : (w : List ℕ) (i : ℕ) → i < length w → getD (stored-Δ3 w) i 0 ≡ cond (Δ3-defined w i) (Δ3 w i) 0
 unfolding stored-Δ3
-stored-Δ3-entry w i h = let from : 0 + i ≡ i = omega arith in rw from at (stored-entry-from (length w) 0 i w h)
+stored-Δ3-entry w i h =
+    let from : 0 + i ≡ i = omega arith in
+    rw from at (values-entry (length w) 0 i (λ j. cond (Δ3-defined w j) (Δ3 w j) 0) h)
 
 pub stored-Δ3-defined : (w : List ℕ) (i : ℕ) → i < length w → Δ3-defined w i ≡ true → getD (stored-Δ3 w) i 0 ≡ Δ3 w i
 stored-Δ3-defined w i h e = rw e at (stored-Δ3-entry w i h)

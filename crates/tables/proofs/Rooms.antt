@@ -2,7 +2,7 @@
 -- where the period stands then. Each condition's test, turned into its bound and back; table by table.
 use mathlib.Core.Bool.{false}
 use mathlib.Core.List.{List}
-use mathlib.Core.Path.{_≡_, refl, _∙_}
+use mathlib.Core.Path.{_≡_, _∙_}
 use Prim.Native.Nat.{ℕ}
 use native.Mathlib.Omega.{arith}
 use borrow.Author.Tests.{ltb-false, le-ltb}
@@ -13,10 +13,10 @@ use Rattle.answers.proofs.Fronts.{in-front-entry}
 use Rattle.answers.proofs.Refusals.{neither, pattern-within}
 use Rattle.answers.specs.Answers.{if-done}
 use Rattle.answers.specs.Refusals.{pattern-refusal}
-use Rattle.tables.proofs.LaterShift.{Δ2-facts}
-use Rattle.tables.proofs.Order.{Δ2-length}
+use Rattle.tables.proofs.LaterShift.{Δ2-end}
+use Rattle.tables.proofs.Stored.{stored-Δ2-length, stored-Δ2-entry}
 use Rattle.tables.specs.Buffers.{Tables, lengths, needed, Pattern-taken, Tables-fit, tables-short, with-tables, tables-left, Tables-written}
-use Rattle.tables.specs.Tables.{period, Δ2}
+use Rattle.tables.specs.Tables.{period, stored-Δ2}
 
 module _ {w : List ℕ} {lent : Tables} where
   pub tables-fit : pattern-refusal (length w) .holds ≡ false → tables-short (length w) (lengths lent) ≡ false → Tables-fit w lent
@@ -47,8 +47,9 @@ module _ {w : List ℕ} {lent : Tables} where
   pub period-written : Pattern-taken w → {left : Tables} → Tables-written w lent left → getD (left .delta2) (length w) 0 ≡ period w
   period-written taken r =
       let m = length w in
-      rw (r .delta2) (in-front-entry (Δ2 w) (lent .delta2) m 0 (omega (arith, Δ2-length w (taken .some))))
-      ∙ Δ2-facts w (taken .some) m (taken .some) (omega arith) .whole refl
+      rw (r .delta2) (in-front-entry (stored-Δ2 w) (lent .delta2) m 0 (omega (arith, stored-Δ2-length w)))
+      ∙ stored-Δ2-entry w m (taken .some) (omega arith)
+      ∙ Δ2-end w (taken .some)
 
 -- a refused call leaves them
 pub tables-kept : (s : ℕ) (w : List ℕ) {lent : Tables} → (s ≡ 0 → ⊥) → lent ≡ tables-left s w lent

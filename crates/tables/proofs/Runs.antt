@@ -1,7 +1,7 @@
 -- Lists that are filled along a run of numbers, each with an entry or none: how often a number stands there, and what before an entry.
 -- By induction on the run.
 use mathlib.Core.Bool.{Bool, true, false, cond}
-use mathlib.Core.List.{List, [], _∷_, _++_, map}
+use mathlib.Core.List.{List, [], _∷_, _++_}
 use mathlib.Core.Logic.{_≢_, ⊎-elim}
 use mathlib.Core.Path.{_≡_, refl}
 use Prim.Native.Nat.{ℕ, zero, suc, _+_, _≤_, _<_}
@@ -83,9 +83,16 @@ module _ {Q : ℕ → ℕ → Type 0} {p : ℕ} where
             ⊎-elim (λ e. absurd (q g (rw e t))) (λ e. before u g e d t) (eq-or-lt-of-le c),
       )
 
-  -- two functions that agree on the entries agree on the list
-  pub run-map :
-      {A : Type 0} (f g : ℕ → A) {a : ℕ} {l : List ℕ} → ((v h : ℕ) → a ≤ v → v < p → Q v h → f h ≡ g h) → Run Q p a l → map f l ≡ map g l
-  run-map f g same end = refl
-  run-map f g same (entry {a} x q t r) = rw (same a x (omega arith) t q, run-map f g (λ v h b. same v h (omega arith)) r)
-  run-map f g same (none q r) = run-map f g (λ v h b. same v h (omega arith)) r
+  -- an entry and the one after it are those of numbers that rise
+  run-head : {a : ℕ} {l : List ℕ} → Run Q p a l → 0 < length l → (v : ℕ) × (a ≤ v) × Q v (getD l 0 0)
+  run-head end b = absurd (omega arith)
+  run-head (entry {a} x q t r) b = (a, omega arith, q)
+  run-head (none q r) b = let (v, u, here) = run-head r b in (v, omega arith, here)
+
+  pub run-rises :
+      {a : ℕ} {l : List ℕ} → Run Q p a l → (i : ℕ) → suc i < length l →
+      (u v : ℕ) × (u < v) × Q u (getD l i 0) × Q v (getD l (suc i) 0)
+  run-rises end i b = absurd (omega arith)
+  run-rises (entry {a} x q t r) zero b = let (v, u, next) = run-head r (omega arith) in (a, v, omega arith, q, next)
+  run-rises (entry x q t r) (suc i) b = run-rises r i (omega arith)
+  run-rises (none q r) i b = run-rises r i b

@@ -10,7 +10,7 @@ use lib.ListN.{length}
 use Rattle.answers.specs.Answers.{if-done}
 use Rattle.answers.specs.Buffers.{in-front}
 use Rattle.answers.specs.Refusals.{Refusal, refuse, first-of, longest-pattern, job-refusals}
-use Rattle.tables.specs.Tables.{stored-order, Δ2, stored-Δ1, stored-Δ3}
+use Rattle.tables.specs.Tables.{stored-order, stored-Δ2, stored-Δ1, stored-Δ3}
 use Rattle.tables.specs.declared.TableLengths.{TableLengths}
 
 -- what stands in the buffers for order, Δ2, Δ1 and Δ3
@@ -64,7 +64,7 @@ measured-status m q n l short = first-of (job-refusals m q n ++ (table-refusal m
 -- the tables of a pattern, as they are stored, in front of what the buffers held
 abbrev pub with-tables : (w : List ℕ) → (lent : Tables) → Tables
 with-tables w x =
-    tables (in-front (stored-order w) (x .order)) (in-front (Δ2 w) (x .delta2)) (in-front (stored-Δ1 w) (x .delta1))
+    tables (in-front (stored-order w) (x .order)) (in-front (stored-Δ2 w) (x .delta2)) (in-front (stored-Δ1 w) (x .delta1))
     (in-front (stored-Δ3 w) (x .delta3))
 
 -- what is left in the buffers by a call of this status that works the tables out

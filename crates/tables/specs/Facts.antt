@@ -1,14 +1,12 @@
--- What each table of a pattern holds, as propositions: every entry is the least number that its sets allow, and every shift below Δ2's is
+-- What each table of a pattern holds, as propositions: every entry is the least number that its sets allow; of a shift, every smaller one is
 -- refuted. Each record's proof is in proofs/ (docs/PROMISES.md); the theorems of the steps go by these and unfold no table. These are definitions.
-use mathlib.Core.Bool.{true}
 use mathlib.Core.List.{List}
 use mathlib.Core.Logic.{_≢_, _⊎_}
 use mathlib.Core.Path.{_≡_}
-use Prim.Native.Nat.{ℕ, suc, _+_, _*_, _-_, _≤_, _<_}
-use lib.IntN.{pos}
+use Prim.Native.Nat.{ℕ, suc, _+_, _-_, _≤_, _<_}
 use lib.ListN.{length, getD}
-use Rattle.tables.specs.Sets.{byte, Pos}
-use Rattle.tables.specs.Tables.{h-min, period, order, stored-order}
+use Rattle.tables.specs.Sets.{byte}
+use Rattle.tables.specs.Tables.{h-min, period, order}
 
 -- k is in Pos(c, i), in Neg(c, i), outside Neg(c, i)
 abbrev pub In-pos : (w : List ℕ) → (c i k : ℕ) → Type 0
@@ -67,23 +65,27 @@ pub record First-shift (w : List ℕ) (c s k : ℕ) : Type 0 where
       ((g : ℕ) × (g + s + 1 ≡ length w) × In-neg w (byte w g) g j) ⊎ ((g : ℕ) × (g + 1 ≡ length w) × In-neg w c g j)
 
 -- a shift j is refuted where the first i entries of the order agreed and the next one, if there is one, differed: j is in Neg(w(h), h) for
--- an entry h that agreed, or in Pos(w(h), h) for the one that differed. Where all agreed that entry is -1, and its set is empty
+-- an entry h that agreed, or in Pos(w(h), h) for the one that differed
 pub data Refuted (w : List ℕ) (i j : ℕ) : Type 0 where
   by-agreed : (x : ℕ) → x < i → (let h = getD (order w) x 0 in In-neg w (byte w h) h j) → Refuted w i j
-  by-differing : Pos w (byte w (getD (order w) i 0)) (getD (stored-order w) i (pos 0)) j ≡ true → Refuted w i j
+  by-differing : i < length w → (let h = getD (order w) i 0 in In-pos w (byte w h) h j) → Refuted w i j
+
+-- a shift k keeps what the first i entries h of the order show: it is outside Neg(w(h), h)
+abbrev pub Kept : (w : List ℕ) → (i k : ℕ) → Type 0
+Kept w i k = (x : ℕ) → x < i → (let h = getD (order w) x 0 in Out-neg w (byte w h) h k)
+
+-- and it does not lay the pattern's own byte onto the next entry h, if there is one: it is outside Pos(w(h), h)
+abbrev pub Unlike : (w : List ℕ) → (i k : ℕ) → Type 0
+Unlike w i k = i < length w → (let h = getD (order w) i 0 in In-pos w (byte w h) h k → ⊥)
 
 -- k is Δ2(i + 1), which is stored at i, for i from 1 to m: the shift where i comparisons agreed
 pub record Later-shift (w : List ℕ) (i k : ℕ) : Type 0 where
   pub positive : 1 ≤ k
   pub within : k ≤ length w
-  -- it keeps what the last position shows
-  pub outside-last : (g : ℕ) → g + 1 ≡ length w → Out-neg w (byte w g) g k
+  pub outside-agreed : Kept w i k
+  pub outside-differing : Unlike w i k
   -- every smaller shift is refuted
-  pub refuted : (j : ℕ) → 1 ≤ j → j < k → Refuted w i j
-  -- where one differed, the comparisons made are at most twice the shift
-  pub few : i < length w → suc i ≤ 2 * k
-  -- after an occurrence it is the period
-  pub whole : i ≡ length w → k ≡ period w
+  pub least : (j : ℕ) → 1 ≤ j → j < k → Refuted w i j
 
 -- the text's byte under pattern position g is known where position i of a repeat differed: g is above i and agreed, or below m - p
 abbrev pub Known : (w : List ℕ) → (i g : ℕ) → Type 0

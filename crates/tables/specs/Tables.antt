@@ -1,11 +1,11 @@
--- Colussi's tables of a pattern w of m bytes, by their sets (document 01, "The motif's tables"; document 002, sections 2 and 5).
+-- The tables of a pattern w of m bytes, by their sets (document 01, "The motif's tables"; document 002, sections 2 and 5; Δ2 and Δ3 as document 02 has them).
 -- These are definitions.
-use mathlib.Core.Bool.{Bool, _&&_, cond}
+use mathlib.Core.Bool.{Bool, _&&_, _||_, cond}
 use mathlib.Core.List.{List, [], _∷_, _++_, map}
 use Prim.Native.Nat.{ℕ, zero, suc, _+_, _*_, _-_, _/_, _%_}
 use lib.Dec.{ltb, leb, eqb}
 use lib.IntN.{ℤ, pos, negsuc, subℕ}
-use lib.ListN.{length}
+use lib.ListN.{length, getD}
 use Rattle.tables.specs.Least.{least-from, all-from}
 use Rattle.tables.specs.Sets.{byte, outside, Pos, Neg}
 
@@ -62,9 +62,27 @@ order w = (length w - 1) ∷ second-group w ++ third-group w
 unfoldable pub stored-order : (w : List ℕ) → List ℤ
 stored-order w = map pos (order w) ++ (negsuc 0 ∷ [])
 
--- Δ2 as it is stored, entry i at i - 1: 0 for i = 1, k_min(h(i)) in the second group, r_min(h(i)) in the third, p for i = m + 1
-unfoldable pub Δ2 : (w : List ℕ) → List ℕ
-Δ2 w = 0 ∷ map (k-min w) (second-group w) ++ map (r-min w) (third-group w) ++ (period w ∷ [])
+-- h(i), i from 1 to m: entry i of the order
+abbrev pub h-at : (w : List ℕ) → (i : ℕ) → ℕ
+h-at w i = getD (order w) (i - 1) 0
+
+-- Δ2(i), i from 2 to m + 1 (document 02, "The longest honest step"): the least k of 1 or more outside Neg(w(h(j)), h(j)) for every j below i
+-- and, for i up to m, outside Pos(w(h(i)), h(i))
+unfoldable pub Δ2 : (w : List ℕ) → (i : ℕ) → ℕ
+Δ2 w i =
+    let m = length w in
+    least-from m 1 λ k.
+    let keeps : ℕ → Bool = λ h. outside (Neg w (byte w h) (pos h)) k in
+    all-from (i - 1) 1 (λ j. keeps (h-at w j)) && (ltb m i || outside (Pos w (byte w (h-at w i)) (pos (h-at w i))) k)
+
+-- the values of a table in their order, so many from an index on
+unfoldable pub values-from : (count at : ℕ) → (value : ℕ → ℕ) → List ℕ
+values-from zero i f = []
+values-from (suc n) i f = f i ∷ values-from n (suc i) f
+
+-- Δ2 as it is stored: entry i at i - 1, and 0 for i = 1
+unfoldable pub stored-Δ2 : (w : List ℕ) → List ℕ
+stored-Δ2 w = 0 ∷ values-from (length w) 2 (Δ2 w)
 
 -- Δ1(c, s), s from 1 to m: the least k of 1 or more outside Neg(w(m-s-1), m-s-1) and outside Neg(c, m-1); for s = m the first set is empty
 unfoldable pub Δ1 : (w : List ℕ) → (c s : ℕ) → ℕ
@@ -74,12 +92,8 @@ unfoldable pub Δ1 : (w : List ℕ) → (c s : ℕ) → ℕ
     outside (Neg w (byte w (m - s - 1)) (subℕ m (s + 1))) k && outside (Neg w c (pos (m - 1))) k
 
 -- Δ1 as it is stored: Δ1(c, s) at c × m + s - 1 for all 256 values of c
-unfoldable pub stored-Δ1-from : (count at : ℕ) → (w : List ℕ) → List ℕ
-stored-Δ1-from zero i w = []
-stored-Δ1-from (suc n) i w = Δ1 w (i / length w) (i % length w + 1) ∷ stored-Δ1-from n (suc i) w
-
 unfoldable pub stored-Δ1 : (w : List ℕ) → List ℕ
-stored-Δ1 w = stored-Δ1-from (256 * length w) 0 w
+stored-Δ1 w = values-from (256 * length w) 0 λ i. Δ1 w (i / length w) (i % length w + 1)
 
 -- the pattern repeats (document 02, "Long repeats"): m is at least 3 × p
 unfoldable pub repeats : (w : List ℕ) → Bool
@@ -99,12 +113,8 @@ unfoldable pub Δ3-defined : (w : List ℕ) → (i : ℕ) → Bool
 Δ3-defined w i = repeats w && leb (length w - period w) i && leb i (length w - 2)
 
 -- Δ3 as it is stored: entry i at i, 0 wherever it is not defined
-unfoldable pub stored-Δ3-from : (count at : ℕ) → (w : List ℕ) → List ℕ
-stored-Δ3-from zero i w = []
-stored-Δ3-from (suc n) i w = cond (Δ3-defined w i) (Δ3 w i) 0 ∷ stored-Δ3-from n (suc i) w
-
 unfoldable pub stored-Δ3 : (w : List ℕ) → List ℕ
-stored-Δ3 w = stored-Δ3-from (length w) 0 w
+stored-Δ3 w = values-from (length w) 0 λ i. cond (Δ3-defined w i) (Δ3 w i) 0
 
 -- so many numbers, falling from i on
 unfoldable pub falling : (count i : ℕ) → List ℕ

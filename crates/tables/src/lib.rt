@@ -1,4 +1,4 @@
-// Colussi's tables of a pattern: their definitions are in specs/, and the laws of each in proofs/. The code that writes them is in the crates
+// The tables of a pattern: their definitions are in specs/, and the laws of each in proofs/. The code that writes them is in the crates
 // delta1, minima, order, delta2, delta3 and prepare.
 ghost use mathlib.Core.Path.{_≡_};
 ghost use Prim.Native.Nat.{_≤_};

@@ -27,7 +27,7 @@ use Rattle.tables.proofs.Cases.{le-or-lt}
 use Rattle.tables.specs.Buffers.{tables-left}
 use Rattle.tables.specs.Prepare.{prepare-status}
 use Rattle.tables.specs.Sets.{byte, Pos, Neg}
-use Rattle.tables.specs.Tables.{h-min, k-min, r-min, period, second-group-from, second-group, third-group-from, third-group, order, stored-order, Δ1, Δ2, stored-Δ1-from, stored-Δ1, repeats, Δ3, Δ3-defined, stored-Δ3-from, stored-Δ3, falling, repeat-row, repeat-shifts}
+use Rattle.tables.specs.Tables.{h-min, k-min, r-min, period, second-group-from, second-group, third-group-from, third-group, order, stored-order, Δ2, values-from, stored-Δ2, Δ1, stored-Δ1, repeats, Δ3, Δ3-defined, stored-Δ3, falling, repeat-row, repeat-shifts}
 use Rattle.steps.specs.Occurrences.{occurs, occurrences-from, all-occurrences, occurrences}
 use Rattle.steps.specs.Bound.{bound}
 use Rattle.steps.specs.Steps.{agreeing, align, row, shifts, step, alignments-from, alignments, compared, is-occurrence, repeat-after, comparisons-of, listed, comparisons}
@@ -87,14 +87,14 @@ pub examples-hold : All-hold examples
 unfolding bytes Holds examples All All-hold
     if-done answered count-answer first-of job-refusals is-digit digit-value digit digits all-digits number
     lines read-status write-status prepare-status search-status convert-status count-status report-status refused-report first-line job-file edition-in m-in q-in n-in bytes-in pattern-in text-in good-line good-lines file-refusals file-status
-    least-from all-from Pos Neg h-min k-min r-min period second-group-from second-group third-group-from third-group order stored-order Δ1 Δ2
-    repeats Δ3 Δ3-defined stored-Δ3-from stored-Δ3 falling repeat-row repeat-shifts
+    least-from all-from Pos Neg h-min k-min r-min period second-group-from second-group third-group-from third-group order stored-order Δ2 values-from stored-Δ2 Δ1
+    repeats Δ3 Δ3-defined stored-Δ3 falling repeat-row repeat-shifts
     occurs occurrences-from all-occurrences occurrences bound shown span
     agreeing align row shifts step alignments-from alignments compared is-occurrence repeat-after comparisons-of listed comparisons
     with-holds frames ones ones-of word-of line done-report seek-report
     reversed-bits mirrored turned-by turned turned-index turn-status turn-answer turned-left from-entry in-front
     restored converts-again is-conversion restore-status restored-left
-    byte-price sum-from total rebate cost price-status price-answer tables-left stored-Δ1-from stored-Δ1 found-left
+    byte-price sum-from total rebate cost price-status price-answer tables-left stored-Δ1 found-left
     frames-left read-answer write-answer report-answer
 examples-hold =
     (refl, (refl, (refl, tt)))
@@ -130,4 +130,5 @@ examples-hold =
     then (refl, (refl, (refl, (record { answer = refl; tables = refl }, (record { answer = refl; tables = refl }, (record { answer = refl; tables = refl }, (refl, (refl, (refl, (refl, tt))))))))))
     then (refl, ((refl, refl), (refl, (refl, ((refl, refl), (refl, (refl, (refl, (refl, (refl, (refl, tt)))))))))))
     then (refl, (refl, (refl, (refl, (refl, tt)))))
+    then (refl, (refl, (refl, (refl, (refl, (refl, tt))))))
     then tt

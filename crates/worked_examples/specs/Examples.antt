@@ -16,7 +16,7 @@ use Rattle.job.specs.declared.ReadAnswer.{ReadAnswer}
 use Rattle.job.specs.declared.WriteAnswer.{WriteAnswer}
 use Rattle.tables.specs.Buffers.{Tables, tables, needed}
 use Rattle.tables.specs.Prepare.{prepare-status, prepare-done, Prepare-outcome}
-use Rattle.tables.specs.Tables.{period, stored-order, Δ1, Δ2, stored-Δ3}
+use Rattle.tables.specs.Tables.{period, stored-order, Δ1, stored-Δ2, stored-Δ3}
 use Rattle.tables.specs.declared.TableLengths.{TableLengths}
 use Rattle.steps.specs.Bound.{search-bound}
 use Rattle.steps.specs.Occurrences.{occurrences}
@@ -102,7 +102,7 @@ b = 0x01
 unfoldable pub Holds : Claim → Type 0
 Holds (period-is w p) = period w ≡ p
 Holds (order-is w entries) = stored-order w ≡ entries
-Holds (Δ2-from-2-is w entries) = drop 1 (Δ2 w) ≡ entries
+Holds (Δ2-from-2-is w entries) = drop 1 (stored-Δ2 w) ≡ entries
 Holds (Δ1-is w c s k) = Δ1 w c s ≡ k
 Holds (stored-Δ3-is w entries) = stored-Δ3 w ≡ entries
 Holds (occurrences-are w t positions) =
@@ -215,6 +215,9 @@ aacaa = a ∷ a ∷ c ∷ a ∷ a ∷ []
 abbrev cbaaa : List ℕ
 cbaaa = c ∷ b ∷ a ∷ a ∷ a ∷ []
 
+abbrev aabbaaa : List ℕ
+aabbaaa = a ∷ a ∷ b ∷ b ∷ a ∷ a ∷ a ∷ []
+
 abbrev cac : List ℕ
 cac = c ∷ a ∷ c ∷ []
 
@@ -272,11 +275,11 @@ examples =
     ∷ order-is aacaa (pos 4 ∷ pos 3 ∷ pos 0 ∷ pos 1 ∷ pos 2 ∷ negsuc 0 ∷ [])
     ∷ Δ2-from-2-is aacaa (1 ∷ 3 ∷ 3 ∷ 3 ∷ 3 ∷ [])
     ∷ [])
-    -- 2. c b a a a: p 5; order 4, 2, 3, 0, 1, -1; Δ2 from i = 2: 1, 2, 5, 5, 5
+    -- 2. c b a a a: p 5; order 4, 2, 3, 0, 1, -1; Δ2 from i = 2, by document 02, "The longest honest step": 1, 5, 5, 5, 5
     ∷ row 2
     (period-is cbaaa 5
     ∷ order-is cbaaa (pos 4 ∷ pos 2 ∷ pos 3 ∷ pos 0 ∷ pos 1 ∷ negsuc 0 ∷ [])
-    ∷ Δ2-from-2-is cbaaa (1 ∷ 2 ∷ 5 ∷ 5 ∷ 5 ∷ [])
+    ∷ Δ2-from-2-is cbaaa (1 ∷ 5 ∷ 5 ∷ 5 ∷ 5 ∷ [])
     ∷ [])
     -- 3. a a c a a: Δ1(c, 1) = 2, Δ1(c, 2) = 5, Δ1(c, 5) = 2
     ∷ row 3 (Δ1-is aacaa c 1 2 ∷ Δ1-is aacaa c 2 5 ∷ Δ1-is aacaa c 5 2 ∷ [])
@@ -643,6 +646,16 @@ examples =
     (answer 0 3 39 0 3 65)
     ∷ comparisons-are acaca (acaca ++ (a ∷ c ∷ replicate 6 a) ++ (c ∷ c ∷ a ∷ [])) 13
     ∷ stored-Δ3-is accaaccaaccaacc (replicate 11 0 ++ (12 ∷ 15 ∷ 13 ∷ 0 ∷ []))
+    ∷ [])
+    -- Document 02, "The longest honest step": for c b a a a, Δ2(3) is 5, so that nothing is looked at from place 2 on. A shift may be longer than p
+    ∷ row 34
+    (comparisons-in-order cbaaa (c ∷ c ∷ a ∷ b ∷ a ∷ cbaaa)
+    (pair 4 4 ∷ pair 2 2 ∷ pair 3 3 ∷ pair 4 9 ∷ pair 2 7 ∷ pair 3 8 ∷ pair 0 5 ∷ pair 1 6 ∷ [])
+    ∷ period-is aabbaaa 5
+    ∷ Δ2-from-2-is aabbaaa (1 ∷ 6 ∷ replicate 5 5)
+    ∷ comparisons-are aabbaaa (a ∷ a ∷ b ∷ b ∷ a ∷ b ∷ a ∷ aabbaaa) 12
+    ∷ Δ2-from-2-is (a ∷ b ∷ a ∷ b ∷ replicate 5 a) (1 ∷ 2 ∷ 8 ∷ 6 ∷ replicate 5 8)
+    ∷ Δ2-from-2-is (b ∷ a ∷ b ∷ a ∷ b ∷ a ∷ b ∷ []) (2 ∷ 2 ∷ 4 ∷ 4 ∷ 6 ∷ 6 ∷ 2 ∷ [])
     ∷ [])
     ∷ []
 

@@ -3,7 +3,7 @@
 use native.Mathlib.Omega.{arith}
 use lib.ListN.{length-take}
 use Rattle.answers.specs.Buffers.{in-front}
-use Rattle.tables.proofs.Order.{stored-Δ1-length}
+use Rattle.tables.proofs.Stored.{stored-Δ1-length}
 use borrow.Author.Needs.{needs}
 use Rattle.delta1.proofs.write_delta1.Statement.{statement}
 use Rattle.delta1.proofs.write_delta1.Tie as tie

@@ -2,31 +2,35 @@
 -- Assumes nothing.
 use Prim.Native.Nat.{_+_, _-_, _<_}
 use mathlib.Core.Path.{_≡_, sym}
-use lib.ListN.{getD}
+use lib.ListN.{getD, length-take, length-drop}
 use Rattle.delta1.proofs.Links.{last-within}
 use Rattle.delta1.proofs.Settled.{Row-settled, row-first, row-next, row-right}
 use Rattle.delta1.specs.Rows.{last-below}
 use Rattle.tables.specs.Sets.{byte}
+use native.Mathlib.Nat.{add-sub-cancel, add-sub-cancel-left}
 use native.Mathlib.Omega.{arith}
 use Rattle.delta1.proofs.write_row.Statement.{statement}
 use Rattle.delta1.proofs.write_row.Tie as tie
 
 abbrev Inv-loop : tie.InvT-loop
-Inv-loop pattern reversed last position row₀ at₀ row at = Row-settled pattern (byte pattern position) at row
+Inv-loop pattern reversed last position row₀ m known at₀ row at = Row-settled pattern (byte pattern position) at row
 
 abbrev μ-loop : tie.MeasureT-loop
-μ-loop pattern reversed last position row₀ at₀ row at = at
+μ-loop pattern reversed last position row₀ m known at₀ row at = at
 
 -- the places of the code: the loop's test, and where a turn has lowered the row; and the function's entry
-abbrev test : tie.After-lower-row Inv-loop μ-loop → tie.At-loop Inv-loop μ-loop
-test c = c .before .before .before
+abbrev test : tie.After-lower Inv-loop μ-loop → tie.At-loop Inv-loop μ-loop
+test c = c .before .before .before .before
 
 abbrev start : tie.At-loop Inv-loop μ-loop → tie.Start Inv-loop μ-loop
-start c = c .before .before .before .before .before
+start c = c .before .before .before .before .before .before
+
+lower-requires : tie.Need-lower-requires Inv-loop μ-loop
+lower-requires c κs = (simp (length-take, length-drop) (omega arith), simp (length-take, length-drop) (omega arith))
 
 -- the next position down is the last one below this one that has the byte
 next-link :
-    (c : tie.After-lower-row Inv-loop μ-loop) →
+    (c : tie.After-lower Inv-loop μ-loop) →
     let a = start (test c) .args in let at = test c .loop .at in let next = getD (a .last .now) at 0 in
     (next ≡ last-below (a .pattern .now) (byte (a .pattern .now) (a .position)) (at - 1)) × (next < at)
 next-link c =
@@ -43,8 +47,10 @@ loop-again : tie.Need-loop-again Inv-loop μ-loop
 loop-again c =
     let lowered = c .before .before .before in
     let at = test lowered in
+    let begun = start at .pre in
     rw (next-link lowered .0)
-    (row-next (start at .args .reversed .now) (at .loop .inv) (lowered .lower-row .ensures) (start at .pre .is-reversed) (omega arith))
+    (row-next (start at .args .reversed .now) (at .loop .inv) (omega arith) (begun .is-reversed) (begun .reversed-room)
+    (rw (add-sub-cancel, add-sub-cancel-left) at (lowered .lower .ensures)))
 
 pub write-row-spec : {M : Type 1} → statement M
 write-row-spec =
@@ -53,9 +59,21 @@ write-row-spec =
     Inv-loop
     μ-loop
     (λ c. omega arith)
-    (λ c. let b = c .before .before .before .before .pre in row-first (b .within) (b .entries) (b .is-last) (b .begun))
     (λ c. omega arith)
-    (λ c κs. omega arith)
+    (λ c. omega arith)
+    (λ c. omega arith)
+    (λ c. omega arith)
+    (λ c. let b = c .before .before .before .before .before .pre in row-first (b .within) (b .entries) (b .is-last) (b .begun))
+    (λ c. omega arith)
+    (λ c. omega arith)
+    (λ c. omega arith)
+    (λ c. omega arith)
+    (λ c. omega arith)
+    (λ c. omega arith)
+    (λ c. omega arith)
+    (λ c. omega arith)
+    (λ c. omega arith)
+    lower-requires
     (λ c. omega arith)
     (λ c. omega (arith, next-link (c .before .before .before)))
     (λ c. omega (arith, next-link (c .before .before .before)))

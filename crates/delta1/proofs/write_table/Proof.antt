@@ -1,6 +1,7 @@
 -- `write_table` meets its contract: the table is filled with m, the links give the rows' ends, and the rows follow.
 -- Assumes nothing.
 use native.Mathlib.Omega.{arith}
+use lib.ListN.{getD-replicate}
 use Rattle.delta1.proofs.Links.{filled-ends}
 use Rattle.delta1.proofs.Stored.{right-stored}
 use borrow.Author.Needs.{needs}
@@ -17,7 +18,7 @@ write-table-spec =
     tie.close
     (tie.spec
     (λ c. search needs)
-    (λ c κs. search needs)
+    (λ c κs. (search needs, λ x h. getD-replicate 256 x 256 0 (omega arith)))
     (λ c. search needs)
     (λ c κs. search needs)
     (λ c. search needs)

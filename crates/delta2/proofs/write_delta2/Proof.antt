@@ -1,126 +1,184 @@
--- `delta2::write_delta2` meets its contract. The invariant: of Δ2 after its first entry, the shifts from the order's entry i on
--- and the period are left to be written. Assumes nothing.
-use mathlib.Core.List.{List, [], _∷_, _++_, map}
-use mathlib.Core.Logic.{_⊎_, inl, inr, ⊎-elim}
-use mathlib.Core.Path.{_≡_, sym, _∙_, ap}
+-- `delta2::write_delta2` meets its contract. The invariant: of Δ2 after its first entry, the values from i on are left to be written; and in the
+-- second group the shifts are linked that keep what the entries before i show. Assumes nothing.
+use mathlib.Core.List.{List, [], _∷_}
+use mathlib.Core.Logic.{_≢_, _⊎_, inl, inr, ⊎-elim}
+use mathlib.Core.Path.{_≡_, refl, sym, _∙_, ap}
 use Prim.Native.Nat.{ℕ, suc, _+_, _-_, _≤_, _<_}
+use native.Mathlib.Numerals.{add-one}
 use native.Mathlib.Omega.{arith}
-use borrow.Author.Tests.{eq-eqb, ne-eqb}
-use lib.IntN.{ℤ, pos, natAbs}
-use lib.ListN.{length, drop, getD, set, length-set, length-map, length-append, length-take, drop-of-length-le}
-use lib.Seq.{drop-cons, getD-take}
+use lib.IntN.{pos, natAbs}
+use lib.ListN.{length, getD, set, length-set}
 use mir.Syntax.{w16}
 use mir.Val.{toZ, ofZ}
-use mir.ValLaws.{toZ-pos}
-use Rattle.answers.specs.Buffers.{in-front}
-use Rattle.tables.proofs.Groups.{later, later-length, later-below, stored-later, shift-at, Δ2-shifts}
-use Rattle.tables.proofs.Order.{groups-length, stored-order-length}
-use Rattle.tables.proofs.Periods.{period-r-min}
 use Rattle.answers.proofs.Partly.{Put, put-none, put-store, _then_, put-front}
 use Rattle.answers.proofs.Partly.{Partly-written, none-written, kept-length, one-more, all-written}
+use Rattle.answers.specs.Buffers.{in-front}
+use Rattle.delta2.proofs.Ordered.{Read, read, order-room}
 use Rattle.delta2.proofs.write_delta2.Statement.{statement}
 use Rattle.delta2.proofs.write_delta2.Tie as tie
-use Rattle.tables.specs.Tables.{k-min, r-min, period, Δ2}
-use Rattle.delta2.specs.Ordered.{Order-stored}
-use Rattle.minima.specs.Minima.{K-min-table, R-min-table}
+use Rattle.delta2.specs.Links.{Shifts-linked, Least-left}
+use Rattle.tables.proofs.KMin.{k-min-cases}
+use Rattle.tables.proofs.LaterShift.{Δ2-smaller, Δ2-third, Δ2-end}
+use Rattle.tables.proofs.Order.{third-follows}
+use Rattle.tables.proofs.Periods.{period-r-min}
+use Rattle.tables.proofs.Stored.{values-length}
+use Rattle.tables.specs.Tables.{k-min, r-min, period, order, Δ2, values-from, stored-Δ2}
 
 -- Δ2 after its first entry, from entry i on
-abbrev shifts-from : (w : List ℕ) (i : ℕ) → List ℕ
-shifts-from w i = map (shift-at w) (drop (i - 1) (later w)) ++ (period w ∷ [])
+abbrev values : (w : List ℕ) (i : ℕ) → List ℕ
+values w i = values-from (length w + 1 - i) (i + 1) (Δ2 w)
 
-next-shift :
-    (w : List ℕ) (i : ℕ) → 1 ≤ i → i < length w → shifts-from w i ≡ shift-at w (getD (later w) (i - 1) 0) ∷ shifts-from w (i + 1)
-next-shift w i l u =
-    let after : i + 1 - 1 ≡ suc (i - 1) = omega arith in
-    rw (after, drop-cons (later w) (i - 1) 0 (omega (arith, later-length w (omega arith))))
+next-value : (w : List ℕ) (i : ℕ) → i ≤ length w → values w i ≡ Δ2 w (i + 1) ∷ values w (i + 1)
+unfolding values-from
+next-value w i u =
+    let n = length w - i in
+    let here : length w + 1 - i ≡ suc n = omega arith in
+    let later : length w + 1 - (i + 1) ≡ n = omega arith in
+    let next : suc (i + 1) ≡ i + 1 + 1 = omega arith in
+    rw (here, later, next)
 
-last-shift : (w : List ℕ) (i : ℕ) → 1 ≤ length w → length w ≤ i → shifts-from w i ≡ period w ∷ []
-last-shift w i b u =
-    let past : length (later w) ≤ i - 1 = omega (arith, later-length w b) in
-    rw (drop-of-length-le (later w) past)
+last-value : (w : List ℕ) (i : ℕ) → i ≡ length w → values w i ≡ Δ2 w (i + 1) ∷ []
+unfolding values-from
+last-value w i e =
+    let here : length w + 1 - i ≡ 1 = omega arith in
+    rw here
 
-order-room : {w : List ℕ} {o : List ℤ} → Order-stored w o → length w + 1 ≤ length o
-order-room {w} {o} s = omega (arith, length-take (length w + 1) o, ap length (s .stored), stored-order-length w (s .taken .some))
-
--- the position that is read from the order at i, and the shift beside it
-module _
-    {w : List ℕ} {o : List ℤ} (s : Order-stored w o) {ks rs : List ℕ} (km : K-min-table w ks) (rm : R-min-table w rs)
-    (i : ℕ) (l : 1 ≤ i) (u : i < length w) where
-  abbrev h : ℕ
-  h = getD (later w) (i - 1) 0
-
-  h-below : h + 1 < length w
-  h-below = later-below w (i - 1) (s .taken .some) (omega (arith, l, u, later-length w (s .taken .some)))
-
-  position : toZ w16 (ofZ w16 (getD o i (pos 0))) ≡ pos h
-  position =
-      let at-i : suc (i - 1) ≡ i = omega (arith, l) in
-      let here = stored-later w (i - 1) (omega (arith, l, u, later-length w (s .taken .some))) in
-      let stored-h = rw (at-i, ← s .stored, getD-take (length w + 1) o i (pos 0) (omega (arith, u))) at here in
-      rw stored-h (toZ-pos w16 h (omega (arith, h-below, s)))
-
-  abbrev read : ℕ
-  read = natAbs (toZ w16 (ofZ w16 (getD o i (pos 0))))
-
-  shift-is : (v : ℕ) → ((0 < getD ks read 0) × (v ≡ getD ks read 0)) ⊎ ((getD ks read 0 ≤ 0) × (v ≡ getD rs read 0)) → v ≡ shift-at w h
-  shift-is v came =
-      let k-read : getD ks read 0 ≡ k-min w h = rw position (km .entry h (omega (arith, h-below))) in
-      let r-read : getD rs read 0 ≡ r-min w h = rw position (rm .entry h (omega (arith, h-below))) in
-      ⊎-elim
-      (λ t. rw (ne-eqb (k-min w h) 0 (λ e. omega arith)) (t .1 ∙ k-read))
-      (λ t. rw (eq-eqb (k-min w h) 0 (omega arith)) (t .1 ∙ r-read))
-      came
+last-is : (w : List ℕ) (i : ℕ) → 1 ≤ length w → i ≡ length w → Δ2 w (i + 1) ≡ r-min w 0
+last-is w i some e = rw (e, add-one) (Δ2-end w some ∙ period-r-min w some)
 
 -- the first entry is stored, and the others are put after it
 all-put :
-    (w d d' : List ℕ) (next : ℕ) → 1 ≤ length w → 1 ≤ length d → Put 1 (shifts-from w 1) (set d 0 0) d' next → d' ≡ in-front (Δ2 w) d
-all-put w d d' next b room p = rw (Δ2-shifts w b) (put-front (put-store (put-none 0 d) 0 room then p))
+    (w d d' : List ℕ) (next : ℕ) → 1 ≤ length d → Put 1 (values w 1) (set d 0 0) d' next → d' ≡ in-front (stored-Δ2 w) d
+unfolding stored-Δ2
+all-put w d d' next room p =
+    let all : length w + 1 - 1 ≡ length w = omega arith in
+    put-front (put-store (put-none 0 d) 0 room then rw all at p)
+
+-- with the last entry all are written
+finished :
+    (w d d' : List ℕ) (i v : ℕ) → 1 ≤ length w → i ≡ length w → v ≡ r-min w 0 → 1 + length (values w 1) ≤ length (set d 0 0) →
+    Partly-written 1 (set d 0 0) d' (values w 1) (values w i) i → set d' (length w) v ≡ in-front (stored-Δ2 w) d
+finished w d d' i v some e last room p =
+    let value : v ≡ Δ2 w (i + 1) = last ∙ sym (last-is w i some e) in
+    let all = one-more 1 (set d 0 0) (rw (last-value w i e) at p) room in
+    let size = rw length-set at room in
+    ap (λ (x : ℕ). set d' x v) (sym e) ∙ rw value (all-put w d _ (i + 1) (omega arith) (all-written 1 (set d 0 0) all))
+
+-- the shifts are linked where entry i is in the second group
+abbrev Linked-at : (w : List ℕ) (i : ℕ) (next : List ℕ) → Type 0
+Linked-at w i next = i < length w → k-min w (getD (order w) i 0) ≢ 0 → Shifts-linked w i next
 
 abbrev Inv-loop : tie.InvT-loop
-Inv-loop pattern order k-min r-min delta2₀ m i₀ delta2 i =
-    (1 ≤ i) × (i ≤ length pattern) × Partly-written 1 delta2₀ delta2 (shifts-from pattern 1) (shifts-from pattern i) i
+Inv-loop pattern order k-min r-min delta2₀ m next₀ i₀ delta2 next i =
+    (1 ≤ i) × (i ≤ length pattern) × Linked-at pattern i next × Partly-written 1 delta2₀ delta2 (values pattern 1) (values pattern i) i
 
 abbrev μ-loop : tie.MeasureT-loop
-μ-loop pattern order k-min r-min delta2₀ m i₀ delta2 i = length pattern - i
+μ-loop pattern order k-min r-min delta2₀ m next₀ i₀ delta2 next i = length pattern - i
 
-at-position :
-    (c : tie.After-h Inv-loop μ-loop) →
-    let s = c .before .before .before in
-    let w = s .args .pattern .now in
-    let i = c .before .before .loop .i in
-    (toZ w16 (ofZ w16 (getD (s .args .order .now) i (pos 0))) ≡ pos (getD (later w) (i - 1) 0)) × (getD (later w) (i - 1) 0 < 128)
-at-position c =
-    let (s, (km, (rm, room))) = c .before .before .before .pre in
-    let l : 1 ≤ c .before .before .loop .i = omega arith in
-    (position s km rm _ l (omega arith), omega (arith, h-below s km rm _ l (omega arith)))
+-- the position that is read from the order at i
+module _ (c : tie.In-loop Inv-loop μ-loop) where
+  abbrev start : tie.Start Inv-loop μ-loop
+  start = c .before .before .before .before .before .before .before .before
+
+  abbrev w : List ℕ
+  w = start .args .pattern .now
+
+  abbrev i : ℕ
+  i = c .before .loop .i
+
+  position : Read w (start .args .order .now) i
+  position = read (start .pre .0) i (omega arith)
 
 -- the buffer has room for all, and it keeps its length
-room :
-    (c : tie.At-loop Inv-loop μ-loop) → let a = c .before .args in
-    1 + length (shifts-from (a .pattern .now) 1) ≤ length (set (a .delta2 .now) 0 0)
-room c = simp (length-set, length-append, length-map) (omega (arith, groups-length (c .before .args .pattern .now) (omega arith)))
+abbrev start-of : tie.At-loop Inv-loop μ-loop → tie.Start Inv-loop μ-loop
+start-of c = c .before .before .before .before .before .before .before
 
-kept : (c : tie.At-loop Inv-loop μ-loop) → length (c .loop .delta2) ≡ length (c .before .args .delta2 .now)
-kept c = kept-length 1 _ (c .loop .inv .2) (room c) ∙ simp length-set
+room :
+    (c : tie.At-loop Inv-loop μ-loop) → let a = start-of c .args in
+    1 + length (values (a .pattern .now) 1) ≤ length (set (a .delta2 .now) 0 0)
+room c =
+    let w = start-of c .args .pattern .now in
+    simp length-set (omega (arith, values-length (length w + 1 - 1) 2 (Δ2 w), start-of c .pre .1 .1 .1))
+
+kept : (c : tie.At-loop Inv-loop μ-loop) → length (c .loop .delta2) ≡ length (start-of c .args .delta2 .now)
+kept c = kept-length 1 _ (c .loop .inv .3) (room c) ∙ simp length-set
+
+module _ (c : tie.In-loop Inv-loop μ-loop) where
+  -- the entries of k_min and r_min there
+  abbrev h : ℕ
+  h = getD (order (w c)) (i c) 0
+
+  abbrev read-at : ℕ
+  read-at = natAbs (toZ w16 (ofZ w16 (getD (start c .args .order .now) (i c) (pos 0))))
+
+  k-read : getD (start c .args .k-min .now) read-at 0 ≡ k-min (w c) h
+  k-read = rw (position c .back) (start c .pre .1 .0 .entry h (position c .below))
+
+  r-read : getD (start c .args .r-min .now) read-at 0 ≡ r-min (w c) h
+  r-read = rw (position c .back) (start c .pre .1 .1 .0 .entry h (position c .below))
+
+  -- in the third group the shift is r_min, and the next entry is of that group too
+  module _ (none : k-min (w c) h ≡ 0) where
+    third-shift : Δ2 (w c) (i c + 1) ≡ r-min (w c) h
+    third-shift =
+        rw add-one
+        (Δ2-third (w c) (omega arith) (i c) (omega arith) (omega arith)
+        (⊎-elim (λ z. z .1) (λ r. absurd (omega (arith, r .positive))) (k-min-cases (w c) h (position c .below))))
+
+    none-linked : {next : List ℕ} → Linked-at (w c) (i c + 1) next
+    none-linked u some =
+        absurd (some (rw add-one (third-follows (w c) (omega arith) (i c) (omega arith) (omega arith) none)))
+
+  -- after an entry whose shift is written, with the shifts linked for the next one
+  one-entry :
+      {v : ℕ} {next : List ℕ} → v ≡ Δ2 (w c) (i c + 1) → Linked-at (w c) (i c + 1) next →
+      (1 ≤ i c + 1) × (i c + 1 ≤ length (w c)) × Linked-at (w c) (i c + 1) next
+      × Partly-written 1 (set (start c .args .delta2 .now) 0 0) (set (c .before .loop .delta2) (i c) v) (values (w c) 1) (values (w c) (i c + 1))
+      (i c + 1)
+  one-entry e linked =
+      let left = rw (next-value (w c) (i c) (omega arith)) at (c .before .loop .inv .3) in
+      (omega arith, omega arith, linked, rw e (one-more 1 _ left (room (c .before))))
+
+-- the smaller of two numbers, as the code takes it
+abbrev Smaller : (k upper v : ℕ) → Type 0
+Smaller k upper v = ((k < upper) × (v ≡ k)) ⊎ ((upper ≤ k) × (v ≡ upper))
+
+module _ (c : tie.In-loop Inv-loop μ-loop) where
+  abbrev upper : ℕ
+  upper = getD (start c .args .r-min .now) (read-at c) 0
+
+  second-value : (k v : ℕ) → Least-left (w c) (i c) k → Smaller k upper v → v ≡ Δ2 (w c) (i c + 1)
+  second-value k v r chosen =
+      let up : Smaller k (r-min (w c) (h c)) v = rw (r-read c) at chosen in
+      rw add-one
+      (Δ2-smaller (w c) (omega arith) (omega arith) (r .positive) (r .within) (r .left .0) (r .unlike)
+      (λ j a b no-period keep unlike. r .least j a b (keep, λ p. absurd (no-period p)) unlike) v up)
+
+  third-value : (k v : ℕ) → k-min (w c) (h c) ≡ 0 → k ≡ upper → Smaller k upper v → v ≡ Δ2 (w c) (i c + 1)
+  third-value k v none same chosen =
+      let up : v ≡ upper = ⊎-elim (λ (_, e). e ∙ same) (λ (_, e). e) chosen in
+      up ∙ r-read c ∙ sym (third-shift c none)
 
 loop-again : tie.Need-loop-again Inv-loop μ-loop
 loop-again c =
-    let at = c .before .before .before .before in
-    let (s, (km, (rm, big))) = at .before .pre in
-    let left = rw (next-shift (at .before .args .pattern .now) (at .loop .i) (omega arith) (omega arith)) at (at .loop .inv .2) in
-    let next = shift-is s km rm (at .loop .i) (omega arith) (omega arith) _
-    (⊎-elim (λ t. inl (t .0 .taken, t .1)) (λ t. inr (t .0 .left, t .2)) (c .if1 .came)) in
-    (omega arith, omega arith, rw next (one-more 1 _ left (room at)))
+    let at = c .before .before .before .before .before in
+    let chosen : Smaller (c .before .if1 .k) (upper at) (c .if2 .delta2) =
+    ⊎-elim (λ t. inl (t .0 .taken, t .1)) (λ t. inr (t .0 .left, t .1)) (c .if2 .came) in
+    ⊎-elim
+    (λ t.
+    let r : Least-left (w at) (i at) (c .before .if1 .k) = rw (t .4) (t .2 .ensures .0) in
+    one-entry at (second-value at _ _ r chosen) (λ _ _. rw (t .3) (t .2 .ensures .1)))
+    (λ t.
+    let none : k-min (w at) (h at) ≡ 0 = omega (arith, k-read at, t .0 .left) in
+    one-entry at (third-value at _ _ none (t .2) chosen) (none-linked at none))
+    (c .before .if1 .came)
 
 returns : tie.Need-returns Inv-loop μ-loop
 returns c =
     let at = c .before .before in
-    let (s, (km, (rm, big))) = at .before .pre in
-    let w = at .before .args .pattern .now in
-    let at-end : at .loop .i ≡ length w = omega arith in
-    let last = rm .entry 0 (omega arith) ∙ sym (period-r-min w (omega arith)) in
-    let all = one-more 1 _ (rw (last-shift w (at .loop .i) (omega arith) (omega arith)) at (at .loop .inv .2)) (room at) in
-    all-put w _ _ (length w + 1) (omega arith) (omega arith) (rw (last, ← at-end) (all-written 1 _ all))
+    let begun = start-of at in
+    let some = begun .pre .0 .taken .some in
+    finished _ _ _ _ _ some (omega arith) (begun .pre .1 .1 .0 .entry 0 some) (room at) (at .loop .inv .3)
 
 pub write-delta2-spec : {M : Type 1} → statement M
 write-delta2-spec =
@@ -128,22 +186,29 @@ write-delta2-spec =
     (tie.spec
     Inv-loop
     μ-loop
-    (λ c. omega arith)
-    (λ c. (omega arith, omega arith, none-written 1 _ _))
-    (λ c. omega arith)
-    (λ c. omega (arith, order-room (c .before .before .pre .0)))
-    (λ c. rw (at-position c .0) (tt, omega (arith, at-position c .1)))
-    (λ c. rw (at-position c .0) (omega (arith, at-position c .1)))
-    (λ c. rw (at-position c .0) (omega (arith, at-position c .1)))
-    (λ c. let at = at-position (c .before .before) in rw (at .0) (omega (arith, at .1)))
-    (λ c. let at = at-position (c .before .before) in rw (at .0) (omega (arith, at .1)))
-    (λ c. omega arith)
-    (λ c. omega (arith, kept (c .before .before .before .before)))
-    (λ c. omega arith)
+    (λ c κs. let p = c .before .before .before .pre in (p .0 .taken, (p .1 .1 .0, refl)))
+    (λ c κs. let s = c .before .before .before .before .before .pre .0 in (s, (s .taken .some, c .before .link-shifts .ensures)))
+    (λ c. omega (arith, c .before .before .before .before .before .before .pre .1 .1 .1))
+    (λ c.
+    let s = c .before .before .before .before .before .before .pre .0 in
+    (omega arith, omega (arith, s .taken .some), λ _ _. c .narrow .ensures .1, none-written 1 _ _))
+    (λ c. omega (arith, start c .pre .0 .taken .few))
+    (λ c. omega (arith, order-room (start c .pre .0)))
+    (λ c. rw (position (c .before) .back) (tt, omega (arith, position (c .before) .small)))
+    (λ c. rw (position (c .before) .back) (omega (arith, position (c .before) .small)))
+    (λ c. rw (position (c .before) .back) (omega (arith, position (c .before) .small)))
+    (λ c. let at = c .before .before in rw (position at .back) (omega (arith, position at .small)))
+    (λ c. let at = c .before .before in rw (position at .back) (omega (arith, position at .small)))
+    (λ c κs.
+    let at = c .before .before .before .before .before in
+    (start at .pre .0, (omega arith, at .before .loop .inv .2 (omega arith) (λ e. omega (arith, k-read at, c .before .if1 .taken)))))
+    (λ c. omega (arith, start (c .before .before .before .before .before) .pre .0 .taken .few))
+    (λ c. let at = c .before .before .before .before .before in omega (arith, kept (at .before), start at .pre .1 .1 .1))
+    (λ c. omega (arith, start (c .before .before .before .before .before) .pre .0 .taken .few))
     (λ c. omega arith)
     loop-again
     (λ c. omega arith)
-    (λ c. omega arith)
-    (λ c. omega (arith, kept (c .before .before)))
+    (λ c. omega (arith, start-of (c .before .before) .pre .0 .taken .few))
+    (λ c. omega (arith, kept (c .before .before), start-of (c .before .before) .pre .1 .1 .1))
     (λ c. simp length-set (kept (c .before .before)))
     returns)
