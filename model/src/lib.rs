@@ -1,4 +1,4 @@
-//! A plain model of document 01 and of document 02's requests U1, U2, U3, U5 and U6, written from
+//! A plain model of document 01 and of document 02's requests U1, U2, U3, U5, U6 and U7, written from
 //! these documents alone; U4 changes no answer.
 //!
 //! It follows the definitions word by word and takes no short cuts: the tables by their sets, the
@@ -30,7 +30,8 @@
 //! In this folder. Those of the library and of SEEK need, at the repository's root and first,
 //! `rt staticlib ruffarmoire` and `rt check seek`.
 //!
-//! - `cargo test --release --lib --test worked_examples --test consistency`: the model's own tests.
+//! - `cargo test --release --lib --test worked_examples --test consistency --test shifts`: the model's
+//!   own tests.
 //! - `cargo test --release`: also the tests of the library and of SEEK against the model.
 //! - `cargo run --release --example bench`: their speed beside plain Rust versions.
 

@@ -13,6 +13,11 @@ pub fn in_neg(w: &[u8], c: u8, i: isize, k: usize) -> bool {
     usize::try_from(i).is_ok_and(|i| k <= i && w[i - k] != c)
 }
 
+/// Whether k is in Pos(w(j), j). For j = -1 that set is empty.
+pub fn in_pos_of_own(w: &[u8], j: isize, k: usize) -> bool {
+    usize::try_from(j).is_ok_and(|position| in_pos(w, w[position], j, k))
+}
+
 /// Whether k is in Neg(w(j), j). For j = -1 that set is empty.
 pub fn in_neg_of_own(w: &[u8], j: isize, k: usize) -> bool {
     usize::try_from(j).is_ok_and(|position| in_neg(w, w[position], j, k))
@@ -46,6 +51,18 @@ pub fn delta1(w: &[u8], c: u8, s: usize) -> usize {
         .expect("m is in neither set")
 }
 
+/// Δ2(i), i from 2 to m + 1: the least k of 1 or more outside Neg(w(h(j)), h(j)) for every j below i
+/// and, for i up to m, outside Pos(w(h(i)), h(i)). The order has h(i) at i - 1.
+pub fn delta2(w: &[u8], order: &[i16], i: usize) -> usize {
+    let m = w.len();
+    let h = |i: usize| isize::from(order[i - 1]);
+    (1..)
+        .find(|&k| {
+            (1..i).all(|j| !in_neg_of_own(w, h(j), k)) && (i > m || !in_pos_of_own(w, h(i), k))
+        })
+        .expect("m is in none of the sets")
+}
+
 /// Δ3(i), i from m - p to m - 2 where m is at least 3 p: the least k of 1 or more outside
 /// Pos(w(i), i), outside Neg(w(j), j) for j above i, and outside Neg(w(j), j) for j below m - p.
 pub fn delta3(w: &[u8], i: usize) -> usize {
@@ -53,7 +70,7 @@ pub fn delta3(w: &[u8], i: usize) -> usize {
     let known = m - period(w);
     (1..)
         .find(|&k| {
-            !in_pos(w, w[i], i as isize, k)
+            !in_pos_of_own(w, i as isize, k)
                 && (i + 1..m).all(|j| !in_neg_of_own(w, j as isize, k))
                 && (0..known).all(|j| !in_neg_of_own(w, j as isize, k))
         })
@@ -83,8 +100,6 @@ pub struct Tables {
     pub h_min: Vec<usize>,
     /// k_min(h) at h, in a table of 129 entries that are 0 to begin with.
     pub k_min: Vec<usize>,
-    /// r_min(h) at h, in a table of 129 entries that are 0 to begin with.
-    pub r_min: Vec<usize>,
     /// h(i) at i - 1, for i from 1 to m + 1. The entry after the last position is -1.
     pub order: Vec<i16>,
     /// Δ2(i) at i - 1, for i from 1 to m + 1. Δ2(1) is stored as 0.
@@ -108,13 +123,6 @@ impl Tables {
             (1..=m).find(|&k| h_mins[k] == h && h >= k).unwrap_or(0)
         });
 
-        // r_min(h): the least r above h with h_min(r) = r - 1.
-        let r_mins = table_of_129(0..m, |h| {
-            (h + 1..=m)
-                .find(|&r| h_mins[r] == r - 1)
-                .expect("h_min(m) is m - 1")
-        });
-
         // Order: m - 1; then the other h with k_min(h) not 0, by rising k_min; then the remaining
         // ones rising; -1 after the last.
         let mut second: Vec<usize> = (0..m - 1).filter(|&h| k_mins[h] != 0).collect();
@@ -125,10 +133,8 @@ impl Tables {
         order.extend(third.iter().map(|&h| h as i16));
         order.push(-1);
 
-        let mut delta2 = vec![0];
-        delta2.extend(second.iter().map(|&h| k_mins[h]));
-        delta2.extend(third.iter().map(|&h| r_mins[h]));
-        delta2.push(p);
+        let mut delta2s = vec![0];
+        delta2s.extend((2..=m + 1).map(|i| delta2(w, &order, i)));
 
         let mut delta1s = Vec::new();
         for c in 0..=255 {
@@ -148,9 +154,8 @@ impl Tables {
             period: p,
             h_min: h_mins,
             k_min: k_mins,
-            r_min: r_mins,
             order,
-            delta2,
+            delta2: delta2s,
             delta1: delta1s,
             delta3: delta3s,
         }

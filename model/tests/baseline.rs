@@ -46,7 +46,7 @@ impl PrepareCalls for Baseline {
     }
 }
 
-/// Document 002's listings.
+/// With Δ1 by document 002's listing.
 struct AsListed;
 
 impl PrepareCalls for AsListed {

@@ -4,7 +4,8 @@ mod common;
 
 use std::collections::{BTreeMap, BTreeSet};
 
-use common::{bounds, repeats};
+use common::words::words;
+use common::{bounds, facts, repeats};
 use ruffarmoire_model::answers::{Answer, Refusal};
 use ruffarmoire_model::calls::{self, TableLengths};
 use ruffarmoire_model::convert;
@@ -19,20 +20,6 @@ use ruffarmoire_model::turn::{
     mirrored, turned_bytes, turned_frames, turned_job, turned_occurrences, Way, WAYS,
 };
 
-/// The bound of a search with h occurrences, once more: two comparisons for each position before the
-/// last where the pattern fits, a whole pattern there, and where the pattern has no three whole
-/// periods, for each occurrence its bytes past the first two.
-fn bound_by_parts(pattern: &[u8], n: usize, h: usize) -> usize {
-    match n.checked_sub(pattern.len()) {
-        Some(last) => {
-            let (m, p) = (pattern.len(), period(pattern));
-            let past = if m / p == 2 { m % p } else { 0 };
-            2 * last + m + h * past
-        }
-        None => 0,
-    }
-}
-
 /// The steps find what occurs, within the bound.
 fn check_search(tables: &Tables, pattern: &[u8], text: &[u8]) -> Search {
     let done = search_with(tables, pattern, text);
@@ -46,7 +33,12 @@ fn check_search(tables: &Tables, pattern: &[u8], text: &[u8]) -> Search {
     let (n, h) = (text.len(), done.occurrences.len());
     let bound = bound(tables, n, h);
     assert!(done.comparisons.len() <= bound, "{}", context());
-    assert_eq!(bound, bound_by_parts(pattern, n, h), "{}", context());
+    assert_eq!(
+        bound,
+        bounds::bound_by_parts(pattern, n, h),
+        "{}",
+        context()
+    );
     done
 }
 
@@ -182,6 +174,22 @@ fn largest_searches() {
     }
 }
 
+/// Every pattern of up to 8 bytes over two, and longer ones, in texts with an occurrence just as far on
+/// as a shift goes; and texts that differ from these only where nothing was compared.
+#[test]
+fn occurrences_as_far_on_as_each_shift_and_their_pairs() {
+    let mut random = Random::seeded(14);
+    let mut different = 0;
+    for pattern in words(&[0, 1], 1..9).chain(facts::patterns()) {
+        let tables = Tables::of(&pattern);
+        let few = facts::bytes_and_another(&pattern);
+        for text in facts::texts_of_shifts(&tables, &pattern) {
+            different += usize::from(check_pair(&mut random, &tables, &pattern, &text, &few));
+        }
+    }
+    assert!(different > 25_000, "only {different} pairs differed");
+}
+
 /// Of one byte throughout, two bytes are compared whole at every alignment, and meet the bound. From
 /// three on, each position of the text is compared once.
 #[test]
@@ -199,36 +207,6 @@ fn comparisons_of_one_byte_throughout() {
             let compared: BTreeSet<usize> = positions.collect();
             assert!(compared.into_iter().eq(0..300));
             assert_eq!(done.comparisons.len(), 300);
-        }
-    }
-}
-
-/// Patterns of every period that has room for three, just below, at and just above three periods.
-#[test]
-fn shifts_of_long_repeats() {
-    for pattern in repeats::patterns() {
-        let tables = Tables::of(&pattern);
-        let (m, p) = (pattern.len(), tables.period);
-        assert_eq!(tables.delta3.len(), m);
-        let defined = if m >= 3 * p { m - p..m - 1 } else { 0..0 };
-        for i in 0..m {
-            let shift = tables.delta3[i];
-            if !defined.contains(&i) {
-                assert_eq!(shift, 0);
-                continue;
-            }
-            // Enough for the bound, and from h_min and r_min.
-            assert!((m - 2 * p + 1..=m).contains(&shift));
-            let by_h_min = (m - 2 * p + 1..=i).find(|&k| {
-                let beyond = k + p;
-                tables.h_min[k] == i && (beyond >= m || tables.h_min[beyond] == beyond - 1)
-            });
-            assert_eq!(shift, by_h_min.unwrap_or(tables.r_min[i]));
-        }
-        // The shift after a repeat alignment whose first comparison differs.
-        if m >= 3 * p {
-            let others = (0..=255).filter(|&c| c != pattern[m - 1]);
-            assert!(others.into_iter().all(|c| tables.delta1(c, p) >= m - p));
         }
     }
 }
@@ -308,7 +286,6 @@ fn tables_are_well_formed() {
         assert_eq!(tables.h_min[0], 0);
         assert!(tables.h_min[m + 1..].iter().all(|&h| h == 0));
         assert!(tables.k_min[m..].iter().all(|&k| k == 0));
-        assert!(tables.r_min[m..].iter().all(|&r| r == 0));
     }
 }
 

@@ -40,12 +40,13 @@ fn example_1_tables() {
     assert_eq!(tables.delta2, [0, 1, 3, 3, 3, 3]);
 }
 
+/// With Δ2(3) as document 02, "The longest honest step", has it.
 #[test]
 fn example_2_tables() {
     let tables = Tables::of(&[C, B, A, A, A]);
     assert_eq!(tables.period, 5);
     assert_eq!(tables.order, [4, 2, 3, 0, 1, -1]);
-    assert_eq!(tables.delta2, [0, 1, 2, 5, 5, 5]);
+    assert_eq!(tables.delta2, [0, 1, 5, 5, 5, 5]);
 }
 
 #[test]
@@ -316,6 +317,37 @@ fn slips_are_seen() {
     assert_eq!(convert::occurrences(&[A, A], &marked), []);
 }
 
+/// Document 02, "The longest honest step": Δ2 by its sets, and what it saves.
+#[test]
+fn longest_steps() {
+    let delta2 = |pattern: &[u8]| Tables::of(pattern).delta2;
+
+    // Of a a c a a, in the order 4, 3, 0, 1, 2, the sets Neg without 0 are {2}, {1}, {}, {}, {1, 2}, and
+    // Pos from i = 2 are {2, 3}, {}, {1}, {}. So 1 is left by Neg at 4 and by Pos at 3, and from i = 3
+    // on 3 is the least that the first two Neg leave; no other set but Pos at 3 has it.
+    assert_eq!(delta2(&[A, A, C, A, A]), [0, 1, 3, 3, 3, 3]);
+
+    // Of c b a a a, in the order 4, 2, 3, 0, 1, the sets Neg without 0 are {3, 4}, {1, 2}, {2, 3}, {},
+    // {1}, and Pos from i = 2 are {}, {1}, {}, {}. So 1 is left by Neg at 4 and by Pos at 2; from i = 3
+    // on the first two Neg leave nothing below 5.
+    assert_eq!(delta2(&[C, B, A, A, A]), [0, 1, 5, 5, 5, 5]);
+
+    // Of c c a a a a, in the order 5, 2, 3, 4, 0, 1, the first three Neg without 0 are {4, 5}, {1, 2},
+    // {2, 3}, and Pos at 2 is {}, at 3 it is {1}. So Δ2(2) is 1, Δ2(3) is 3, which the first two Neg
+    // leave and which brings c to 3; from i = 4 on the first three Neg leave nothing below 6.
+    assert_eq!(delta2(&[C, C, A, A, A, A]), [0, 1, 3, 6, 6, 6, 6]);
+
+    // One byte throughout has no Neg but {}, and Pos at h has 1 to h.
+    assert_eq!(delta2(&[A; 4]), [0, 1, 2, 3, 1]);
+    assert_eq!(delta2(&[A]), [0, 1]);
+
+    // At 0, positions 4 and 2 agree and 3 differs: 3 comparisons. Five on is the occurrence: 5. At 2
+    // nothing is compared, where position 0 would lie on an a that was seen.
+    let text = [C, C, A, C, A, C, B, A, A, A];
+    check_search(&[C, B, A, A, A], &text, &[5], 8);
+    assert_eq!(bound(&Tables::of(&[C, B, A, A, A]), text.len(), 1), 15);
+}
+
 /// Document 02, "Long repeats": the shifts, and two occurrences that share a byte.
 #[test]
 fn long_repeats() {
@@ -325,6 +357,7 @@ fn long_repeats() {
     let tables = Tables::of(&pattern);
     assert_eq!(tables.delta3(9), 7);
     assert_eq!(tables.delta3, [0, 0, 0, 0, 0, 0, 0, 0, 9, 7, 0]);
+    assert_eq!(tables.delta2, [0, 1, 3, 3, 3, 6, 6, 6, 9, 9, 9, 3]);
     // The first occurrence has 11 comparisons. Three on, position 10 agrees and 9 differs: 2. Seven on
     // is the second occurrence: 11.
     let text = [&pattern[..], &pattern[1..]].concat();

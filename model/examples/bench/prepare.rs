@@ -1,5 +1,5 @@
 //! Preparing patterns, beside a plain fill of as many entries as Δ1 has, beside the same algorithm
-//! in plain Rust, and beside document 002's listings in plain Rust.
+//! in plain Rust, and beside that with Δ1 by document 002's listing.
 
 use std::hint::black_box;
 
@@ -17,16 +17,16 @@ const PATTERNS: usize = 8;
 pub fn run() {
     println!("prepare: µs a pattern, each time over {PATTERNS} patterns of a kind.");
     println!(
-        "{:>4} {:22} {:>8} {:>8} {:>8} {:>9} {:>12} {:>12} {:>16}",
+        "{:>4} {:22} {:>8} {:>8} {:>8} {:>9} {:>12} {:>12} {:>15}",
         "m",
         "pattern",
         "fill",
         "Rattle",
         "Rust",
-        "listings",
+        "listing",
         "Rattle/fill",
         "Rattle/Rust",
-        "Rattle/listings"
+        "Rattle/listing"
     );
     let mut random = Random::seeded(32);
     for m in [1, 2, 8, 32, 128] {
@@ -41,18 +41,18 @@ pub fn run() {
                 }
                 black_box(&mut filled);
             });
-            let [fill, rattle, rust, listings] = medians([
+            let [fill, rattle, rust, listing] = medians([
                 fill,
                 timed(&patterns, library::prepare),
                 timed(&patterns, prepare),
                 timed(&patterns, prepare_as_listed),
             ]);
             println!(
-                "{m:4} {:22} {fill:8.3} {rattle:8.3} {rust:8.3} {listings:9.3} {:12.2} {:12.2} {:16.3}",
+                "{m:4} {:22} {fill:8.3} {rattle:8.3} {rust:8.3} {listing:9.3} {:12.2} {:12.2} {:15.3}",
                 kind.name(),
                 rattle / fill,
                 rattle / rust,
-                rattle / listings
+                rattle / listing
             );
         }
     }
@@ -68,9 +68,17 @@ enum Kind {
     /// A root of so many random bytes again and again, at least three times.
     Repeated(usize),
     AllEqual,
+    /// All equal but for one, which comes after so many 128ths of the pattern.
+    Broken(usize),
+    /// All equal but for the first and one that comes after two thirds of the pattern.
+    BrokenTwice,
+    /// A random half, and then all equal.
+    HalfEqual,
+    /// A random third over 48 different bytes, and then all equal but for one.
+    ThirdAndBroken,
 }
 
-const KINDS: [Kind; 12] = [
+const KINDS: [Kind; 18] = [
     Kind::Random(2),
     Kind::Random(5),
     Kind::Random(26),
@@ -83,6 +91,12 @@ const KINDS: [Kind; 12] = [
     Kind::Repeated(24),
     Kind::Repeated(42),
     Kind::AllEqual,
+    Kind::Broken(0),
+    Kind::Broken(42),
+    Kind::Broken(63),
+    Kind::BrokenTwice,
+    Kind::HalfEqual,
+    Kind::ThirdAndBroken,
 ];
 
 impl Kind {
@@ -92,6 +106,10 @@ impl Kind {
             Kind::Periodic => "periodic".to_string(),
             Kind::Repeated(period) => format!("period {period}"),
             Kind::AllEqual => "all equal".to_string(),
+            Kind::Broken(parts) => format!("broken at {parts}/128"),
+            Kind::BrokenTwice => "broken twice".to_string(),
+            Kind::HalfEqual => "half equal".to_string(),
+            Kind::ThirdAndBroken => "third, then broken".to_string(),
         }
     }
 
@@ -99,6 +117,7 @@ impl Kind {
     fn has_length(self, m: usize) -> bool {
         match self {
             Kind::Repeated(period) => m >= 3 * period,
+            Kind::Broken(_) | Kind::BrokenTwice | Kind::HalfEqual | Kind::ThirdAndBroken => m >= 8,
             _ => true,
         }
     }
@@ -109,6 +128,26 @@ impl Kind {
             Kind::Periodic => repeated_root(random, m.div_ceil(4)).take(m).collect(),
             Kind::Repeated(period) => repeated_root(random, period).take(m).collect(),
             Kind::AllEqual => vec![random.byte(); m],
+            Kind::Broken(parts) => {
+                let mut pattern = Kind::AllEqual.pattern(random, m);
+                pattern[m * parts / 128] ^= 1;
+                pattern
+            }
+            Kind::BrokenTwice => {
+                let mut pattern = Kind::Broken(85).pattern(random, m);
+                pattern[0] ^= 2;
+                pattern
+            }
+            Kind::HalfEqual => {
+                let mut pattern = Kind::AllEqual.pattern(random, m);
+                pattern[..m / 2].fill_with(|| random.byte());
+                pattern
+            }
+            Kind::ThirdAndBroken => {
+                let mut pattern = Kind::Broken(100).pattern(random, m);
+                pattern[..m / 3].fill_with(|| random.below(48) as u8);
+                pattern
+            }
         }
     }
 }

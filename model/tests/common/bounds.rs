@@ -1,6 +1,8 @@
-//! Searches whose period and bound are written out.
+//! The bound by its parts, and searches whose period and bound are written out.
 
 use ruffarmoire_model::job::Job;
+
+use super::words::period;
 
 /// A search, and what it answers beside its occurrences.
 pub struct Bounded {
@@ -28,6 +30,20 @@ impl Bounded {
             format!("{:08X}", self.bound),
         ];
         assert_eq!(lines[3..5], expected);
+    }
+}
+
+/// The bound of a search with h occurrences by its parts: two comparisons for each position before the
+/// last where the pattern fits, a whole pattern there, and where the pattern has no three whole
+/// periods, for each occurrence its bytes past the first two.
+pub fn bound_by_parts(pattern: &[u8], n: usize, h: usize) -> usize {
+    match n.checked_sub(pattern.len()) {
+        Some(last) => {
+            let (m, p) = (pattern.len(), period(pattern) as usize);
+            let past = if m / p == 2 { m % p } else { 0 };
+            2 * last + m + h * past
+        }
+        None => 0,
     }
 }
 

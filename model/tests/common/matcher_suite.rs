@@ -44,6 +44,7 @@ impl<T: MatcherCalls> SearchingCall for Search<T> {
 pub fn worked_examples<T: MatcherCalls>() {
     check_examples::<Search<T>>();
     const A: u8 = 0x06;
+    const B: u8 = 0x01;
     const C: u8 = 0x18;
     let expect = |pattern: &[u8], text: &[u8], occurrences: &[usize], comparisons: u32| {
         let outcome = check_exact::<Search<T>>(Input::new(0, pattern, text));
@@ -61,4 +62,7 @@ pub fn worked_examples<T: MatcherCalls>() {
     let pattern = [A, A, C, A, A, C, A, A, C, A, A];
     let sharing = [&pattern[..], &pattern[1..]].concat();
     expect(&pattern, &sharing, &[0, 10], 24);
+    // Positions 4 and 2 agree and 3 differs; the next alignment is five on.
+    let text = [C, C, A, C, A, C, B, A, A, A];
+    expect(&[C, B, A, A, A], &text, &[5], 8);
 }

@@ -9,6 +9,7 @@ pub mod harness;
 
 pub mod bounds;
 pub mod examples;
+pub mod facts;
 pub mod files;
 pub mod lengths;
 pub mod repeats;

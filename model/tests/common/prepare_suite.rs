@@ -10,7 +10,7 @@ use super::harness::{reserved, shown};
 use super::lengths::BufferLengths;
 use super::repeats;
 use super::table_buffers::{longer, LentTables, TableBuffers};
-use super::words::{period, structured_words, words};
+use super::words::{broken_runs, period, structured_words, words};
 
 /// An implementation of preparing a pattern.
 pub trait PrepareCalls {
@@ -75,15 +75,31 @@ pub fn worked_examples<T: PrepareCalls>() {
     const A: u8 = 0x06;
     const B: u8 = 0x01;
     const C: u8 = 0x18;
-    let expect = |pattern: &[u8], period: u32, order: [i16; 6], delta2: [usize; 6]| {
+    let expect = |pattern: &[u8], period: u32, order: &[i16], delta2: &[usize]| {
         check_pattern::<T>(pattern);
-        let outcome = check_prepare::<T>(pattern, TableLengths::needed(5));
+        let outcome = check_prepare::<T>(pattern, TableLengths::needed(pattern.len()));
         assert_eq!(outcome.answer, answer(period));
         assert_eq!(outcome.order, order);
         assert_eq!(outcome.delta2, delta2);
     };
-    expect(&[A, A, C, A, A], 3, [4, 3, 0, 1, 2, -1], [0, 1, 3, 3, 3, 3]);
-    expect(&[C, B, A, A, A], 5, [4, 2, 3, 0, 1, -1], [0, 1, 2, 5, 5, 5]);
+    expect(
+        &[A, A, C, A, A],
+        3,
+        &[4, 3, 0, 1, 2, -1],
+        &[0, 1, 3, 3, 3, 3],
+    );
+    expect(
+        &[C, B, A, A, A],
+        5,
+        &[4, 2, 3, 0, 1, -1],
+        &[0, 1, 5, 5, 5, 5],
+    );
+    expect(
+        &[C, C, A, A, A, A],
+        6,
+        &[5, 2, 3, 4, 0, 1, -1],
+        &[0, 1, 3, 6, 6, 6, 6],
+    );
     let outcome = check_prepare::<T>(&[A, A, C, A, A], TableLengths::needed(5));
     let shift = |s: usize| outcome.delta1[usize::from(C) * 5 + s - 1];
     assert_eq!([shift(1), shift(2), shift(5)], [2, 5, 2]);
@@ -172,12 +188,10 @@ pub fn longest_patterns<T: PrepareCalls>() {
             }
         }
     }
-    // Each byte once; one byte throughout, but for one position.
+    // Each byte once; runs with a break.
     let risen: Vec<u8> = (128..=255).collect();
     check_prepare::<T>(&risen, TableLengths::needed(128));
-    for position in [0, 1, 63, 64, 126, 127] {
-        let mut pattern = vec![0x18; 128];
-        pattern[position] = 0xE7;
+    for pattern in broken_runs(&mut random, 128) {
         check_prepare::<T>(&pattern, TableLengths::needed(128));
     }
     for period in [1, 2, 3, 43, 64, 127] {

@@ -16,6 +16,7 @@ use ruffarmoire_model::tables::Tables;
 
 use super::bounds;
 use super::examples::example_jobs;
+use super::facts;
 use super::harness::{expect_front, reserved, shown, Buffer};
 use super::lengths::BufferLengths;
 use super::repeats;
@@ -70,6 +71,7 @@ macro_rules! bound_tests {
         tests_of!(searching, $call:
             periods_and_bounds,
             comparisons_within_the_bound,
+            occurrences_as_far_on_as_each_shift,
             all_short_long_repeats,
             long_repeats_with_any_end,
         );
@@ -489,16 +491,20 @@ fn answer_within_the_bound<T: SearchingCall<Answer = Answer>>(
     answer
 }
 
-/// Every pattern of up to 6 bytes with every text of up to 11, over two bytes; and the generated
-/// ones. The buffers go from call to call.
+/// Every pattern of up to 6 bytes with every text of up to 11, over two bytes, each with the comparisons
+/// of the model's steps; and the generated ones. The buffers go from call to call.
 pub fn comparisons_within_the_bound<T: SearchingCall<Answer = Answer>>() {
     const TWO: [u8; 2] = [0x06, 0x18];
     let [mut buffers, _] = Buffers::fillings(128, 16_384, Lengths::needed::<T>(128, 16_384));
     let (mut met, mut met_by_long_repeats) = ([0; 6], [0; 6]);
     for pattern in words(&TWO, 1..7) {
+        let tables = Tables::of(&pattern);
         let is_long_repeat = pattern.len() >= 3 * period(&pattern) as usize;
         for text in words(&TWO, 0..12) {
-            let answer = answer_within_the_bound::<T>(Input::new(0, &pattern, &text), &mut buffers);
+            let input = Input::new(0, &pattern, &text);
+            let answer = answer_within_the_bound::<T>(input, &mut buffers);
+            let comparisons = search_with(&tables, &pattern, &text).comparisons.len();
+            assert_eq!(answer.comparisons as usize, comparisons, "{input}");
             let is_met = answer.bound > 0 && answer.comparisons == answer.bound;
             met[pattern.len() - 1] += usize::from(is_met);
             met_by_long_repeats[pattern.len() - 1] += usize::from(is_met && is_long_repeat);
@@ -512,33 +518,44 @@ pub fn comparisons_within_the_bound<T: SearchingCall<Answer = Answer>>() {
     }
 }
 
-/// Searches some texts for a pattern of at least three periods: the comparisons are those of the
-/// model's steps and at most 2 n - m, and the occurrences are those of the definition. The buffers go
-/// from call to call.
+/// Searches some texts for a pattern with these tables: the comparisons are those of the model's steps
+/// and within the bound, and the occurrences are those of the definition. The buffers go from call to
+/// call.
 fn check_texts<T: SearchingCall<Answer = Answer>>(
+    tables: &Tables,
     pattern: &[u8],
-    texts: impl Iterator<Item = Vec<u8>>,
+    texts: impl IntoIterator<Item = Vec<u8>>,
     buffers: &mut Buffers,
 ) {
     check_exact::<T>(Input::new(0, pattern, &[]));
-    let tables = Tables::of(pattern);
     for text in texts {
         let input = Input::new(0, pattern, &text);
         let answer = T::call(input, buffers.lent());
         let found = &buffers.found.lent()[..answer.occurrences as usize];
         assert_eq!(found, entries(&occurrences(pattern, &text)), "{input}");
-        let steps = search_with(&tables, pattern, &text);
-        let (m, n) = (pattern.len() as u32, text.len() as u32);
+        let steps = search_with(tables, pattern, &text);
         let expected = Answer {
             status: 0,
             occurrences: found.len() as u32,
             comparisons: steps.comparisons.len() as u32,
             ones: answer.ones,
             period: period(pattern),
-            bound: if n < m { 0 } else { 2 * n - m },
+            bound: bounds::bound_by_parts(pattern, text.len(), found.len()) as u32,
         };
         assert_eq!(answer, expected, "{input}");
         assert!(answer.comparisons <= answer.bound, "{input}");
+    }
+}
+
+/// Every pattern of up to 8 bytes over two, and longer ones, in texts with an occurrence just as far on
+/// as a shift goes.
+pub fn occurrences_as_far_on_as_each_shift<T: SearchingCall<Answer = Answer>>() {
+    let [mut buffers, _] = Buffers::fillings(128, 384, Lengths::longer::<T>(128, 384));
+    let short = words(&[0x06, 0x18], 1..9);
+    for pattern in short.chain(facts::patterns().step_by(3)) {
+        let tables = Tables::of(&pattern);
+        let texts = facts::texts_of_shifts(&tables, &pattern);
+        check_texts::<T>(&tables, &pattern, texts, &mut buffers);
     }
 }
 
@@ -553,7 +570,9 @@ fn short_buffers<T: SearchingCall>() -> Buffers {
 pub fn all_short_long_repeats<T: SearchingCall<Answer = Answer>>() {
     let mut buffers = short_buffers::<T>();
     for pattern in repeats::all_short().filter(|pattern| pattern.len() <= 8) {
-        check_texts::<T>(&pattern, words(&[0x06, 0x18], 0..13), &mut buffers);
+        let tables = Tables::of(&pattern);
+        let texts = words(&[0x06, 0x18], 0..13);
+        check_texts::<T>(&tables, &pattern, texts, &mut buffers);
     }
 }
 
@@ -562,6 +581,8 @@ pub fn all_short_long_repeats<T: SearchingCall<Answer = Answer>>() {
 pub fn long_repeats_with_any_end<T: SearchingCall<Answer = Answer>>() {
     let mut buffers = short_buffers::<T>();
     for pattern in repeats::all_short() {
-        check_texts::<T>(&pattern, repeats::with_any_end(&pattern), &mut buffers);
+        let tables = Tables::of(&pattern);
+        let texts = repeats::with_any_end(&pattern);
+        check_texts::<T>(&tables, &pattern, texts, &mut buffers);
     }
 }

@@ -1,6 +1,9 @@
-//! Words: all short ones, long ones that repeat themselves on many scales, and the period of a word.
+//! Words: all short ones, long ones that repeat themselves on many scales, runs with a break, and the
+//! period of a word.
 
 use std::ops::Range;
+
+use ruffarmoire_model::gen::Random;
 
 /// Every word over the given letters with one of the given lengths.
 pub fn words<T: Copy>(letters: &[T], lengths: Range<usize>) -> impl Iterator<Item = Vec<T>> + '_ {
@@ -31,6 +34,24 @@ pub fn structured_words(length: usize) -> Vec<Vec<u8>> {
     let runs = (1..).flat_map(|run| (0..=run).map(move |position| u8::from(position == run)));
     made.push(runs.take(length).collect());
     made
+}
+
+/// Words of the given length, of 3 or more, that are a run of one letter but for another: at the start
+/// and the end, next to these, a third of the way and in the middle. Each whole, and with letters at
+/// random for its first third and for its first half.
+pub fn broken_runs(random: &mut Random, length: usize) -> Vec<Vec<u8>> {
+    let (third, half) = (length / 3, length / 2);
+    let mut runs = Vec::new();
+    for position in [0, 1, third, half - 1, half, length - 2, length - 1] {
+        let mut run = vec![0x18; length];
+        run[position] = 0xE7;
+        for front in [0, third, half] {
+            let mut word = run.clone();
+            word[..front].copy_from_slice(&random.bytes(front));
+            runs.push(word);
+        }
+    }
+    runs
 }
 
 /// The period of a word: the least shift, of 1 or more, after which it agrees with itself wherever the

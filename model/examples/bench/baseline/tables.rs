@@ -1,6 +1,7 @@
-//! A pattern's tables. The order and Δ2 are worked out by the linear listings of document 002,
-//! section 5, and Δ3 from theirs; Δ1 either by sweeps over the rows of the bytes that the pattern
-//! has, or by that section's own listing.
+//! A pattern's tables. The order is worked out by the linear listings of document 002, section 5, and
+//! Δ3 from theirs; Δ2 by passes over the shifts that are left and, in the order's third group, by those
+//! listings; Δ1 either by sweeps over the rows of the bytes that the pattern has, or by that section's
+//! own listing.
 
 use ruffarmoire_model::answers::{Answer, Refusal};
 use ruffarmoire_model::MAX_PATTERN;
@@ -115,7 +116,7 @@ unsafe fn put<T>(entries: &mut [T], index: usize, value: T) {
     *entries.get_unchecked_mut(index) = value;
 }
 
-/// The listings for h_min, k_min, r_min, the order and Δ2; and Δ3.
+/// The listings for h_min, k_min, r_min and the order; Δ2 and Δ3.
 unsafe fn write_all_but_delta1(
     w: &[u8],
     order: &mut [i16],
@@ -167,14 +168,26 @@ unsafe fn write_all_but_delta1(
         put(&mut r_min, i, r as u8);
     }
 
+    // The shifts that are left and are no period, linked in rising order: entry k is the one after
+    // k, and entry 0 the first. m is the last, and is always left.
+    let mut next = [0_u8; MAX_PATTERN];
+    let mut after = m;
+    for k in (0..m).rev() {
+        if usize::from(at(&r_min, k)) != k + 1 {
+            after = k + 1;
+        }
+        put(&mut next, k, after as u8);
+    }
     put(order, 0, m as i16 - 1);
     put(delta2, 0, 0);
+    take_out(w, &mut next, m - 1);
     let mut i = 1;
     for k in 1..=m {
         let h = usize::from(at(&h_min, k));
         if h != m - 1 && usize::from(at(&k_min, h)) == k {
             put(order, i, h as i16);
-            put(delta2, i, k as u16);
+            let shift = take_out(w, &mut next, h).min(usize::from(at(&r_min, h)));
+            put(delta2, i, shift as u16);
             i += 1;
         }
     }
@@ -190,6 +203,32 @@ unsafe fn write_all_but_delta1(
     put(delta2, m, u16::from(at(&r_min, 0)));
 
     write_delta3(&h_min, &r_min, delta3.get_unchecked_mut(..m));
+}
+
+/// Takes those in Neg(w(h), h) out of the linked shifts. Gives the least that was linked and is outside
+/// Pos(w(h), h): the first that is taken out, or else the first above h.
+unsafe fn take_out(w: &[u8], next: &mut [u8; MAX_PATTERN], h: usize) -> usize {
+    let byte = at(w, h);
+    let mut least = 0;
+    let mut before = 0;
+    let mut k = usize::from(at(next, before));
+    while k <= h {
+        let after = at(next, k);
+        if at(w, h - k) == byte {
+            before = k;
+        } else {
+            put(next, before, after);
+            if least == 0 {
+                least = k;
+            }
+        }
+        k = usize::from(after);
+    }
+    if least > 0 {
+        least
+    } else {
+        k
+    }
 }
 
 /// Δ3: of a long repeat, the entry of position i is the least k up to i with h_min(k) = i for which
@@ -215,6 +254,9 @@ unsafe fn write_delta3(h_min: &[u8; 129], r_min: &[u8; 129], delta3: &mut [u16])
     }
 }
 
+/// What stands past the end of the reversed pattern. No byte has this value.
+const PAST: u16 = 256;
+
 /// Δ1: every row is filled with m; then each position below m - 1 lowers the row of its byte to
 /// its shift, wherever the last shift allows that.
 unsafe fn write_delta1(w: &[u8], delta1: &mut [u16]) {
@@ -222,9 +264,9 @@ unsafe fn write_delta1(w: &[u8], delta1: &mut [u16]) {
     let table = delta1.get_unchecked_mut(..256 * m);
     table.fill(m as u16);
 
-    let mut reversed = [0_u8; MAX_PATTERN];
+    let mut reversed = [PAST; 2 * MAX_PATTERN];
     for i in 0..m {
-        put(&mut reversed, i, at(w, m - 1 - i));
+        put(&mut reversed, i, u16::from(at(w, m - 1 - i)));
     }
 
     // The last position below m - 1 of each byte, and the position before with the same byte, both
@@ -252,20 +294,19 @@ unsafe fn write_delta1(w: &[u8], delta1: &mut [u16]) {
 
 /// Lowers each entry of a row to the shift, where it is larger and the last shift allows it: that
 /// is entry s - 1 where w(m-s-1-shift) = w(m-s-1), or s is at least m - shift.
-unsafe fn lower_row(reversed: &[u8; MAX_PATTERN], shift: usize, row: &mut [u16]) {
+unsafe fn lower_row(reversed: &[u16; 2 * MAX_PATTERN], shift: usize, row: &mut [u16]) {
     let m = row.len();
-    let front = m - shift - 1;
-    let known = reversed.get_unchecked(1..front + 1);
-    let moved = reversed.get_unchecked(shift + 1..m);
+    let known = reversed.get_unchecked(1..m + 1);
+    let moved = reversed.get_unchecked(shift + 1..shift + 1 + m);
     // All entries are below 2^15. As signed numbers they have a least of two in one instruction.
     let shift = shift as i16;
-    let (front, rest) = row.split_at_mut_unchecked(front);
-    for ((entry, known), moved) in front.iter_mut().zip(known).zip(moved) {
+    for ((entry, &known), &moved) in row.iter_mut().zip(known).zip(moved) {
         let lowered = (*entry as i16).min(shift) as u16;
-        *entry = if known == moved { lowered } else { *entry };
-    }
-    for entry in rest {
-        *entry = (*entry as i16).min(shift) as u16;
+        *entry = if (moved == PAST) | (moved == known) {
+            lowered
+        } else {
+            *entry
+        };
     }
 }
 
