@@ -4,19 +4,14 @@ use mathlib.Core.Bool.{Bool, false, _&&_}
 use mathlib.Core.List.{List, [], _∷_, _++_, append-assoc}
 use mathlib.Core.Path.{_≡_, refl, sym, _∙_}
 use Prim.Native.Nat.{ℕ, suc, _+_, _-_, _≤_, _<_, min}
-use native.Mathlib.Numerals.{add-one}
 use native.Mathlib.Omega.{arith}
 use borrow.Author.Tests.{eq-eqb, ne-eqb}
 use lib.Dec.{eqb}
 use lib.ListN.{length, length-append}
-use Rattle.tables.proofs.FirstShift.{Δ1-facts}
-use Rattle.tables.proofs.Periods.{period-facts}
 use Rattle.tables.specs.Tables.{repeats}
-use Rattle.steps.proofs.Fuel.{fuel-enough, shift-positive}
-use Rattle.steps.proofs.Outcome.{Outcome, none-agreed, order-differed, repeat-differed, all-agreed, step-outcome}
+use Rattle.steps.proofs.Fuel.{shift-positive, shift-within, run-on}
 use Rattle.steps.proofs.Rows.{row-few}
-use Rattle.steps.proofs.Steps.{step-count, step-listed, step-repeat, run-over, run-step}
-use Rattle.steps.specs.Promises.{Fuel-enough}
+use Rattle.steps.proofs.Steps.{step-count, step-listed, step-repeat, run-over}
 use Rattle.progress.specs.Progress.{Taken, Standing, Compared-so, remaining, Stretch}
 use Rattle.steps.specs.Steps.{row, step, repeat-after, comparisons-of}
 use Rattle.steps.specs.Text.{shown, span}
@@ -35,30 +30,15 @@ module _ {w t : List ℕ} (taken : Taken w t) where
   remaining-step :
       (b s h n h' n' : ℕ) (repeat : Bool) → b + length w ≤ span w t → let here = step (shown t) w b s repeat in
       remaining w t (at b s h n) repeat ≡ here ∷ remaining w t (at (b + here .shift) (here .shift) h' n') (repeat-after w here)
-  unfolding Fuel-enough
-  remaining-step b s h n h' n' repeat inside =
-      let f = shown t in
-      let N = span w t in
-      let here = step f w b s repeat in
-      let k = here .shift in
-      let next = repeat-after w here in
-      let more = fuel-enough f N w (taken .some) N (b + k) k next (omega (arith, shift-positive f w b s repeat (taken .some))) .0 1 in
-      run-step f w b s repeat N N inside ∙ rw (← (rw add-one at more))
-
-  -- a shift is at most m
-  shift-within : {b s i k : ℕ} {repeat : Bool} → 1 ≤ s → s ≤ length w → Outcome (shown t) w b s repeat i k → k ≤ length w
-  shift-within {b} {s} l u (none-agreed z q) = omega (arith, Δ1-facts w (shown t (b + (length w - 1))) s l u .within)
-  shift-within l u (order-differed r a c facts) = facts .within
-  shift-within l u (repeat-differed r a c facts) = facts .within
-  shift-within l u (all-agreed e q) = omega (arith, period-facts w (taken .some) .within)
+  remaining-step b s h n h' n' repeat inside = run-on (shown t) (span w t) w (taken .some) b s repeat inside
 
   module _ {b s h n agreed k : ℕ} {repeat : Bool} (standing : Standing w t (at b s h n)) (ended : Compared-so w t b repeat agreed)
       (shifted : k ≡ step (shown t) w b s repeat .shift) where
     shift-facts : (1 ≤ k) × (k ≤ length w)
     shift-facts =
-        let outcome = step-outcome (shown t) w b s (taken .some) repeat in
+        let f = shown t in
         rw shifted
-        (shift-positive (shown t) w b s repeat (taken .some), shift-within (standing .positive) (standing .within) outcome)
+        (shift-positive f w b s repeat (taken .some), shift-within f w b s repeat (taken .some) (standing .positive) (standing .within))
 
     -- the first alignment that remains is the one at b
     first-remaining :

@@ -14,7 +14,7 @@ pub struct Progress {
     pub comparisons: usize,
 }
 
-// The shift of an alignment at b whose first comparison differs, s the shift before it. It is public for the crate that follows repeats.
+// The shift of an alignment at b whose first comparison differs, s the shift before it. It is public for the crates that go by the steps.
 pub fn first_shift(pattern: &[u8], text: &[u8], delta1: &[u16], b: usize, s: usize) -> usize
     requires { ⌜ Begins (stored-Δ1 (now pattern)) (now delta1) ⌝ }
     requires { ⌜ Taken (now pattern) (now text) ⌝ }

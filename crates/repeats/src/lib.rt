@@ -9,8 +9,9 @@ ghost use Rattle.progress.specs.Progress.{Standing, Compared-so, Moved};
 ghost use Rattle.repeats.specs.Repeats.{Repeats-ready};
 use progress::Progress;
 
-// The shift of a repeat at b of which so many comparisons agreed, fewer than p, the pattern's period.
-fn repeat_shift(
+// The shift of a repeat at b of which so many comparisons agreed, fewer than p, the pattern's period. It is public for the crate that goes by one
+// alignment at a time.
+pub fn repeat_shift(
     pattern: &[u8],
     text: &[u8],
     delta1: &[u16],

@@ -1,6 +1,7 @@
 // The library as a Rust or C program links it: every public call, in one archive. Each takes any arguments, and promises what the call of the
 // same name does in its own room.
 use answers::Answer;
+use explain_answers::ExplainAnswer;
 use job::ReadAnswer;
 use job::WriteAnswer;
 use price::PriceAnswer;
@@ -8,6 +9,7 @@ use printer::ReportAnswer;
 use turn::TurnAnswer;
 ghost use mathlib.Core.Path.{_≡_};
 ghost use Rattle.converter.specs.Convert.{Convert-outcome};
+ghost use Rattle.explain.specs.Explain.{Explain-outcome};
 ghost use Rattle.job.specs.Read.{Read-outcome};
 ghost use Rattle.job.specs.Write.{Write-outcome};
 ghost use Rattle.matcher.specs.Search.{Search-outcome};
@@ -171,6 +173,24 @@ pub extern "C" fn price(
         delta3,
         found,
     )
+}
+
+// Explains why a position of the text (place of the chain) has no hold.
+#[no_mangle]
+pub extern "C" fn explain(
+    position: u32,
+    pattern: &[u8],
+    text: &[u8],
+    order: &mut [i16],
+    delta2: &mut [u16],
+    delta1: &mut [u16],
+    delta3: &mut [u16],
+) -> ExplainAnswer
+    ensures { λ r. ⌜ Explain-outcome position (now (pattern .entry)) (now (text .entry))
+        (tables (now (order .entry)) (now (delta2 .entry)) (now (delta1 .entry)) (now (delta3 .entry)))
+        (tables (now (order .exit)) (now (delta2 .exit)) (now (delta1 .exit)) (now (delta3 .exit))) r ⌝ }
+{
+    explain::explain(position, pattern, text, order, delta2, delta1, delta3)
 }
 
 // Writes what SEEK prints for the job of a file.

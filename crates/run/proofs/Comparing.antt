@@ -11,18 +11,15 @@ use borrow.Author.Tests.{le-ltb}
 use lib.IntN.{ℤ, pos, negsuc, natAbs}
 use lib.ListN.{length, getD}
 use lib.Signed.{ltZ}
-use mir.Syntax.{w16}
-use mir.Val.{toZ, ofZ}
-use mir.ValLaws.{toZ-ofZ}
 use Rattle.tables.proofs.Cases.{clash}
-use Rattle.tables.proofs.Groups.{order-below, order-first, stored-order-entry, stored-order-end}
+use Rattle.tables.proofs.Groups.{order-below, order-first, stored-order-end}
 use Rattle.tables.proofs.Order.{order-length, stored-order-length}
 use Rattle.tables.specs.Sets.{byte}
 use Rattle.tables.specs.Tables.{period, order, stored-order, repeats}
 use Rattle.steps.proofs.Outcome.{occurrence-shift}
 use Rattle.steps.proofs.Rows.{row-order, row-length}
 use Rattle.steps.proofs.Steps.{Agreed, agreed-none, agreed-more, agreed-stop, agreed-all}
-use Rattle.progress.proofs.Stored.{begins-room, begins-entry}
+use Rattle.progress.proofs.Stored.{begins-room, begins-entry, entry, order-read}
 use Rattle.progress.proofs.Stretch.{at, stretch-differing, stretch-agreeing}
 use Rattle.steps.proofs.Text.{shown-byte, span-length}
 use Rattle.progress.specs.Progress.{Begins, Taken, Standing, Compared-so, Stretch, Passed-differing}
@@ -36,10 +33,7 @@ pub record Comparing (w t : List ℕ) (b i : ℕ) : Type 0 where
   pub within : i ≤ length w
   pub agreed : b + length w ≤ span w t → Agreed (shown t) w b (order w) i
 
--- an entry of the order's buffer as it is read, a signed 16-bit number, and the position that it is where it is not negative
-abbrev pub entry : (row : List ℤ) (i : ℕ) → ℤ
-entry row i = toZ w16 (ofZ w16 (getD row i (pos 0)))
-
+-- the position that an entry of the order's buffer is, where it is not negative
 abbrev pub position : (row : List ℤ) (i : ℕ) → ℕ
 position row i = natAbs (entry row i)
 
@@ -69,11 +63,7 @@ module _ {w t : List ℕ} (row : List ℤ) (taken : Taken w t) (ready : Begins (
     stored = begins-entry (stored-order w) row ready i (pos 0) in-table
 
     at-position : i < length w → entry row i ≡ pos (getD (order w) i 0)
-    at-position l =
-        let inside : i < length (order w) = omega (arith, whole) in
-        let small = order-below w (taken .some) i inside in
-        rw (stored, stored-order-entry w i inside)
-        (toZ-ofZ w16 (pos (getD (order w) i 0)) (record { sfits = omega (arith, taken .few) }))
+    at-position l = order-read w row ready (taken .some) (taken .few) i l
 
     at-end : i ≡ length w → entry row i ≡ negsuc 0
     at-end e = let last : i ≡ length (order w) = omega (arith, whole) in rw (stored, last, stored-order-end w)

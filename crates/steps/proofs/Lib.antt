@@ -6,6 +6,7 @@ pub mod Outcome
 pub mod Fuel
 pub mod Shift
 pub mod Occurrences
+pub mod Runs
 pub mod Passed
 pub mod Decide
 pub mod Bound

@@ -84,7 +84,7 @@ module _ (f : ℕ → ℕ) (N : ℕ) (w : List ℕ) where
 
   module _ (nonempty : 1 ≤ length w) where
     -- a step finds all agreeing just where its position is an occurrence
-    step-tells :
+    pub step-tells :
         (made : List Comparison) (b s : ℕ) (repeat : Bool) → Carried f w made b s repeat → b + length w ≤ N →
         eqb (agreeing f w b (row w repeat)) (length (row w repeat)) ≡ occurs f N w b
     step-tells made b s repeat known l =

@@ -1,5 +1,5 @@
 -- One step, unfolded once: how many comparisons agree along a row, the shift, the number of comparisons, and a run by its first step.
--- By the tests of the definitions; after this file no proof unfolds `step`, `align` or `compared`.
+-- By the tests of the definitions; after this file no proof unfolds `step` or `compared`.
 use mathlib.Core.Bool.{Bool, _&&_, cond}
 use mathlib.Core.List.{List, [], _∷_, map}
 use mathlib.Core.Logic.{_≢_, ⊎-elim}
@@ -14,7 +14,7 @@ use lib.Seq.{drop-cons, drop-length}
 use Rattle.tables.proofs.Cases.{eq-or-ne}
 use Rattle.tables.specs.Sets.{byte}
 use Rattle.tables.specs.Tables.{Δ1, repeats}
-use Rattle.steps.specs.Steps.{Alignment, agreeing, align, row, shifts, step, is-occurrence, repeat-after, alignments-from, compared, comparisons-of, listed}
+use Rattle.steps.specs.Steps.{Alignment, agreeing, row, shifts, step, is-occurrence, repeat-after, alignments-from, compared, comparisons-of, listed}
 
 -- what an alignment at b shows at a pattern position
 abbrev pub Agrees : (f : ℕ → ℕ) (w : List ℕ) (b g : ℕ) → Type 0
@@ -88,25 +88,25 @@ module _ (f : ℕ → ℕ) (w : List ℕ) (b s : ℕ) (repeat : Bool) where
 
   -- the shift is Δ1 where the first comparison differs, else the one beside the row by the number that agreed
   pub step-shift-first : agreed ≡ 0 → step f w b s repeat .shift ≡ Δ1 w (f (b + (length w - 1))) s
-  unfolding step align
+  unfolding step
   step-shift-first e = rw (eq-eqb _ 0 e)
 
   pub step-shift-later : 1 ≤ agreed → step f w b s repeat .shift ≡ getD (shifts w repeat) agreed 0
-  unfolding step align
+  unfolding step
   step-shift-later l = rw (ne-eqb agreed 0 (omega arith))
 
   -- of the text a step reads only how many agree and the byte at the last position
   pub step-determined :
       (g : ℕ → ℕ) → agreeing g w b (row w repeat) ≡ agreed → g (b + (length w - 1)) ≡ f (b + (length w - 1)) →
       step g w b s repeat ≡ step f w b s repeat
-  unfolding step align
+  unfolding step
   step-determined g a c = rw (a, c)
 
   -- the comparisons are those that agreed, and one more where one differed
   pub step-comparisons :
       compared (step f w b s repeat)
       ≡ map (λ i. record { pattern-position = i; text-position = b + i }) (take (suc agreed) (row w repeat))
-  unfolding step align compared
+  unfolding step compared
   step-comparisons = refl
 
   pub step-count :
@@ -119,18 +119,41 @@ module _ (f : ℕ → ℕ) (w : List ℕ) (b s : ℕ) (repeat : Bool) where
   pub step-listed :
       (later : List Alignment) →
       listed (step f w b s repeat ∷ later) ≡ cond (eqb agreed (length (row w repeat))) (b ∷ listed later) (listed later)
-  unfolding listed is-occurrence step align
+  unfolding listed is-occurrence step
   step-listed later = refl
 
   -- the next one is a repeat where all agree and the pattern repeats
   pub step-repeat : repeat-after w (step f w b s repeat) ≡ eqb agreed (length (row w repeat)) && repeats w
-  unfolding repeat-after is-occurrence step align
+  unfolding repeat-after is-occurrence step
   step-repeat = refl
 
-  -- a step stands at its position
+  -- a step is an occurrence where all agree
+  pub step-is-occurrence : is-occurrence (step f w b s repeat) ≡ eqb agreed (length (row w repeat))
+  unfolding is-occurrence step
+  step-is-occurrence = refl
+
+  -- whether it is a repeat, its row, and how many agree along it
+  pub step-is-repeat : step f w b s repeat .repeat ≡ repeat
+  unfolding step
+  step-is-repeat = refl
+
+  pub step-row : step f w b s repeat .row ≡ row w repeat
+  unfolding step
+  step-row = refl
+
+  pub step-agreed : step f w b s repeat .agreed ≡ agreed
+  unfolding step
+  step-agreed = refl
+
+  -- it stands at its position
   pub step-position : step f w b s repeat .position ≡ b
-  unfolding step align
+  unfolding step
   step-position = refl
+
+  -- a run without fuel has no alignments
+  pub run-none : (N : ℕ) → alignments-from zero f N w b s repeat ≡ []
+  unfolding alignments-from
+  run-none N = refl
 
   -- a run ends past the text's end, and goes on by a step before it
   pub run-over : (fuel N : ℕ) → N < b + length w → alignments-from fuel f N w b s repeat ≡ []

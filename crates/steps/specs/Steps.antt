@@ -14,10 +14,11 @@ pub record Comparison : Type 0 where
   pub pattern-position : ℕ
   pub text-position : ℕ
 
--- the pattern laid at a position b: the pattern positions in the order in which they are compared, how many of them agreed
--- before one differed, and the shift s that is then added to b
+-- the pattern laid at a position b: whether it is a repeat, the pattern positions in the order in which they are compared, how many of them
+-- agreed before one differed, and the shift s that is then added to b
 pub record Alignment : Type 0 where
   pub position : ℕ
+  pub repeat : Bool
   pub row : List ℕ
   pub agreed : ℕ
   pub shift : ℕ
@@ -28,12 +29,6 @@ agreeing f w b [] = 0
 agreeing f w b (i ∷ row) =
     let later = suc (agreeing f w b row) in
     cond (eqb (byte w i) (f (b + i))) later 0
-
--- an alignment at b by a row, with the shift for a first comparison that differs and the shifts for 1, 2, .. that agreed
-unfoldable pub align : (f : ℕ → ℕ) → (w : List ℕ) → (row : List ℕ) → (first : ℕ) → (after : List ℕ) → (b : ℕ) → Alignment
-align f w row first after b =
-    let agreed = agreeing f w b row in
-    record { position = b; row = row; agreed = agreed; shift = cond (eqb agreed 0) first (getD after agreed 0) }
 
 -- the row that an alignment goes by: the order h(1), h(2) and on, or in a repeat m - 1 down to m - p
 unfoldable pub row : (w : List ℕ) → (repeat : Bool) → List ℕ
@@ -47,7 +42,16 @@ shifts w repeat = cond repeat (repeat-shifts w) (stored-Δ2 w)
 -- the row until one differs or all agree, and s becomes the shift beside it: Δ2(i) for h(i), i = m + 1 where all agree, stored at i - 1; in a
 -- repeat Δ3(i) for position i, and p where all agree
 unfoldable pub step : (f : ℕ → ℕ) → (w : List ℕ) → (b s : ℕ) → (repeat : Bool) → Alignment
-step f w b s repeat = align f w (row w repeat) (Δ1 w (f (b + (length w - 1))) s) (shifts w repeat) b
+step f w b s repeat =
+    let agreed = agreeing f w b (row w repeat) in
+    let first = Δ1 w (f (b + (length w - 1))) s in
+    record {
+      position = b;
+      repeat = repeat;
+      row = row w repeat;
+      agreed = agreed;
+      shift = cond (eqb agreed 0) first (getD (shifts w repeat) agreed 0);
+    }
 
 -- all agree: b is an occurrence (find)
 unfoldable pub is-occurrence : Alignment → Bool

@@ -30,7 +30,7 @@ use Rattle.tables.specs.Sets.{byte, Pos, Neg}
 use Rattle.tables.specs.Tables.{h-min, k-min, r-min, period, second-group-from, second-group, third-group-from, third-group, order, stored-order, Δ2, values-from, stored-Δ2, Δ1, stored-Δ1, repeats, Δ3, Δ3-defined, stored-Δ3, falling, repeat-row, repeat-shifts}
 use Rattle.steps.specs.Occurrences.{occurs, occurrences-from, all-occurrences, occurrences}
 use Rattle.steps.specs.Bound.{bound}
-use Rattle.steps.specs.Steps.{agreeing, align, row, shifts, step, alignments-from, alignments, compared, is-occurrence, repeat-after, comparisons-of, listed, comparisons}
+use Rattle.steps.specs.Steps.{agreeing, row, shifts, step, alignments-from, alignments, compared, is-occurrence, repeat-after, comparisons-of, listed, comparisons}
 use Rattle.steps.specs.Text.{shown, span}
 use Rattle.matcher.specs.Search.{search-status, found-left}
 use Rattle.frames.specs.Frames.{with-holds, frames}
@@ -45,6 +45,8 @@ use Rattle.conversions.specs.Restored.{restored, converts-again, is-conversion}
 use Rattle.tariff.proofs.Cost.{cost-equal}
 use Rattle.tariff.specs.Tariff.{byte-price, sum-from, total, rebate, cost}
 use Rattle.price.specs.Price.{job-cost, price-status, price-answer}
+use Rattle.explanations.specs.Explanation.{kind-by, spoils, first-spoilt, where-laid, explained-by, explanation}
+use Rattle.explain.specs.Explain.{explain-status, explain-answer}
 use Rattle.printer.specs.Printed.{report-status, report-answer, refused-report}
 use Rattle.report.specs.Report.{done-report, seek-report}
 use Rattle.worked_examples.specs.Examples.{a, b, bytes, Holds, examples, All, All-hold}
@@ -90,12 +92,13 @@ unfolding bytes Holds examples All All-hold
     least-from all-from Pos Neg h-min k-min r-min period second-group-from second-group third-group-from third-group order stored-order Δ2 values-from stored-Δ2 Δ1
     repeats Δ3 Δ3-defined stored-Δ3 falling repeat-row repeat-shifts
     occurs occurrences-from all-occurrences occurrences bound shown span
-    agreeing align row shifts step alignments-from alignments compared is-occurrence repeat-after comparisons-of listed comparisons
+    agreeing row shifts step alignments-from alignments compared is-occurrence repeat-after comparisons-of listed comparisons
     with-holds frames ones ones-of word-of line done-report seek-report
     reversed-bits mirrored turned-by turned turned-index turn-status turn-answer turned-left from-entry in-front
     restored converts-again is-conversion restore-status restored-left
     byte-price sum-from total rebate cost price-status price-answer tables-left stored-Δ1 found-left
     frames-left read-answer write-answer report-answer
+    kind-by spoils first-spoilt where-laid explained-by explanation explain-status explain-answer
 examples-hold =
     (refl, (refl, (refl, tt)))
     then (refl, (refl, (refl, tt)))
@@ -131,4 +134,6 @@ examples-hold =
     then (refl, ((refl, refl), (refl, (refl, ((refl, refl), (refl, (refl, (refl, (refl, (refl, (refl, tt)))))))))))
     then (refl, (refl, (refl, (refl, (refl, tt)))))
     then (refl, (refl, (refl, (refl, (refl, (refl, tt))))))
+    then (refl, (refl, (refl, (refl, (refl, (refl, (refl, (refl, (refl, (refl, (refl, (refl, (refl, (refl, (refl, (refl, (refl, (refl, (refl, tt)))))))))))))))))))
+    then (refl, (refl, (refl, (refl, (refl, (refl, (refl, (refl, (refl, (refl, (refl, (refl, (refl, (refl, (refl, (refl, (refl, (refl, (record { answer = refl; tables = refl }, (record { answer = refl; tables = refl }, (record { answer = refl; tables = refl }, (record { answer = refl; tables = refl }, tt))))))))))))))))))))))
     then tt

@@ -33,6 +33,13 @@ use Rattle.restore.specs.Restore.{restore-status, Restore-outcome}
 use Rattle.tariff.specs.Tariff.{rebate, cost}
 use Rattle.price.specs.Price.{price-status, job-cost, Price-outcome}
 use Rattle.price.specs.declared.PriceAnswer.{PriceAnswer}
+use Rattle.explain_answers.specs.Answer.{explained}
+use Rattle.explain_answers.specs.declared.ExplainAnswer.{ExplainAnswer}
+use Rattle.explain_answers.specs.declared.Explanation.{Explanation}
+use Rattle.explain_answers.specs.declared.Explanation.the-variants.{Listed, Tried, PassedOver}
+use Rattle.explain_answers.specs.declared.ShiftKind.the-variants.{LastByte, Order, AfterOccurrence, LongRepeat}
+use Rattle.explanations.specs.Explanation.{explanation-in}
+use Rattle.explain.specs.Explain.{explain-status, Explain-outcome}
 use Rattle.printer.specs.Printed.{report-status}
 use Rattle.printer.specs.declared.ReportAnswer.{ReportAnswer}
 use Rattle.report.specs.Report.{seek-report, Report-outcome}
@@ -82,6 +89,10 @@ pub data Claim : Type 0 where
   writing-leaves : (q : ℕ) → (w t file written : List ℕ) → (given : WriteAnswer) → Claim
   turning-both-leaves : (way q : ℕ) → (w t pattern pattern-turned text text-turned : List ℕ) → (given : TurnAnswer) → Claim
   reporting-leaves : (file : String) → (out printed : List ℕ) → (given : ReportAnswer) → Claim
+  explanation-is : (w t : List ℕ) → (position : ℕ) → (told : Explanation) → Claim
+  numbers-are : (told : Explanation) → (given : ExplainAnswer) → Claim
+  explaining-gives : (m n position : ℕ) → (lengths : TableLengths) → (status : ℕ) → Claim
+  explaining-leaves : (position : ℕ) → (w t : List ℕ) → (lent left : Tables) → (given : ExplainAnswer) → Claim
 
 -- the bytes of what is written in quotes: each character's code
 unfoldable pub bytes : String → List ℕ
@@ -144,6 +155,10 @@ Holds (reading-leaves file p p' t t' given) = Read-outcome (bytes file) p p' t t
 Holds (writing-leaves q w t file file' given) = Write-outcome q w t file file' given
 Holds (turning-both-leaves way q w t p p' x x' given) = Turn-outcome way q w t p p' x x' given
 Holds (reporting-leaves file out out' given) = Report-outcome (bytes file) out out' given
+Holds (explanation-is w t position told) = explanation-in position w t ≡ told
+Holds (numbers-are told given) = explained told ≡ given
+Holds (explaining-gives m n position l status) = explain-status m n position l ≡ status
+Holds (explaining-leaves position w t lent left given) = Explain-outcome position w t lent left given
 
 -- a row: its number, up to 10 that of document 01, and what it claims
 pub record Example : Type 0 where
@@ -185,6 +200,10 @@ write-answered s l = record { answer = zeros-beside s; bytes = l }
 
 abbrev report-answered : (status bytes : ℕ) → ReportAnswer
 report-answered s l = record { answer = zeros-beside s; bytes = l }
+
+-- the same with what is told of a place: 1 listed, 2 tried, 3 passed over, the motif place, the place shifted from, and the kind
+abbrev explain-answered : (status outcome place from kind : ℕ) → ExplainAnswer
+explain-answered s o p f k = record { answer = zeros-beside s; outcome = o; place = p; from = f; kind = k }
 
 -- buffers for the tables of these lengths before a call
 abbrev lent : TableLengths → Tables
@@ -656,6 +675,54 @@ examples =
     ∷ comparisons-are aabbaaa (a ∷ a ∷ b ∷ b ∷ a ∷ b ∷ a ∷ aabbaaa) 12
     ∷ Δ2-from-2-is (a ∷ b ∷ a ∷ b ∷ replicate 5 a) (1 ∷ 2 ∷ 8 ∷ 6 ∷ replicate 5 8)
     ∷ Δ2-from-2-is (b ∷ a ∷ b ∷ a ∷ b ∷ a ∷ b ∷ []) (2 ∷ 2 ∷ 4 ∷ 4 ∷ 6 ∷ 6 ∷ 2 ∷ [])
+    ∷ [])
+    -- Document 02, "Why this scallop has no hold": every place of the listing, and each kind of shift. A differing look in a repeat counts as long
+    -- repeat, also when the last card differs. The earliest look may lie before the shift that went past
+    ∷ row 35
+    (explanation-is aacaa listing 0 Listed
+    ∷ explanation-is aacaa listing 1 (PassedOver 0 2 AfterOccurrence)
+    ∷ explanation-is aacaa listing 2 (PassedOver 0 2 AfterOccurrence)
+    ∷ explanation-is aacaa listing 3 (Tried 3)
+    ∷ explanation-is aacaa listing 4 Listed
+    ∷ explanation-is (a ∷ c ∷ []) (a ∷ b ∷ a ∷ c ∷ []) 0 (Tried 1)
+    ∷ explanation-is (a ∷ c ∷ []) (a ∷ b ∷ a ∷ c ∷ []) 1 (PassedOver 0 0 LastByte)
+    ∷ explanation-is cbaaa (c ∷ c ∷ a ∷ b ∷ a ∷ cbaaa) 1 (PassedOver 0 1 Order)
+    ∷ explanation-is cbaaa (c ∷ c ∷ a ∷ b ∷ a ∷ cbaaa) 2 (PassedOver 0 0 Order)
+    ∷ explanation-is aaaa (aaaa ++ (c ∷ aaaa)) 1 (Tried 3)
+    ∷ explanation-is aaaa (aaaa ++ (c ∷ aaaa)) 2 (PassedOver 1 2 LongRepeat)
+    ∷ explanation-is aacaacaacaa two-sharing-one 2 (PassedOver 0 8 AfterOccurrence)
+    ∷ explanation-is aacaacaacaa two-sharing-one 3 (Tried 9)
+    ∷ explanation-is aacaacaacaa two-sharing-one 6 (PassedOver 3 6 LongRepeat)
+    ∷ explanation-is (c ∷ acaca) (c ∷ acaca ++ (c ∷ c ∷ acaca)) 3 (PassedOver 2 2 LongRepeat)
+    ∷ explanation-is (c ∷ acaca) (c ∷ acaca ++ cac) 3 (PassedOver 2 2 AfterOccurrence)
+    ∷ explanation-is (c ∷ a ∷ a ∷ []) acaca 2 (PassedOver 1 0 LastByte)
+    ∷ explanation-is (a ∷ c ∷ a ∷ []) (a ∷ c ∷ c ∷ a ∷ a ∷ []) 2 (PassedOver 1 0 Order)
+    ∷ explanation-is (c ∷ a ∷ a ∷ []) (a ∷ c ∷ a ∷ a ∷ a ∷ []) 2 (PassedOver 1 0 AfterOccurrence)
+    ∷ [])
+    -- The numbers of each case and kind. Turned away by 10 where b + m is above n, after 4 to 7; whole calls, and what they leave
+    ∷ row 36
+    (numbers-are Listed (explain-answered 0 1 0 0 0)
+    ∷ numbers-are (Tried 3) (explain-answered 0 2 3 0 0)
+    ∷ numbers-are (PassedOver 7 5 LastByte) (explain-answered 0 3 5 7 1)
+    ∷ numbers-are (PassedOver 7 5 Order) (explain-answered 0 3 5 7 2)
+    ∷ numbers-are (PassedOver 7 5 AfterOccurrence) (explain-answered 0 3 5 7 3)
+    ∷ numbers-are (PassedOver 7 5 LongRepeat) (explain-answered 0 3 5 7 4)
+    ∷ explaining-gives 5 9 4 (needed 5) 0
+    ∷ explaining-gives 5 9 5 (needed 5) 10
+    ∷ explaining-gives 5 4 0 (needed 5) 10
+    ∷ explaining-gives 5 9 0xFFFFFFFF (needed 5) 10
+    ∷ explaining-gives 0 16385 0 no-room 4
+    ∷ explaining-gives 129 9 9 no-room 4
+    ∷ explaining-gives 5 16385 16384 no-room 6
+    ∷ explaining-gives 5 16384 16379 (needed 5) 0
+    ∷ explaining-gives 5 9 5 (room 5 6 1280 5) 7
+    ∷ explaining-gives 5 9 5 (room 6 5 1280 5) 7
+    ∷ explaining-gives 5 9 5 (room 6 6 1279 5) 7
+    ∷ explaining-gives 5 9 5 (room 6 6 1280 4) 7
+    ∷ explaining-leaves 2 (c ∷ []) cac lent-to-one left-by-one (explain-answered 0 1 0 0 0)
+    ∷ explaining-leaves 1 (c ∷ []) cac lent-to-one left-by-one (explain-answered 0 2 0 0 0)
+    ∷ explaining-leaves 1 (a ∷ c ∷ []) (a ∷ b ∷ a ∷ c ∷ []) (lent (room 4 4 513 3)) left-by-ac (explain-answered 0 3 0 0 1)
+    ∷ explaining-leaves 3 (c ∷ []) cac lent-to-one lent-to-one (explain-answered 10 0 0 0 0)
     ∷ [])
     ∷ []
 

@@ -1,0 +1,25 @@
+-- `explain::explain` meets its contract: a refused call leaves everything, and one that is taken is an explanation within its limits.
+-- By the law of a refused call. Assumes nothing.
+use mathlib.Core.Path.{sym, _∙_}
+use borrow.Author.Needs.{needs}
+use Rattle.explain.proofs.Taken.{refused-outcome}
+use Rattle.explain.proofs.explain.Statement.{statement}
+use Rattle.explain.proofs.explain.Tie as tie
+
+-- the way back to the measuring
+abbrev measured : tie.After-explain-within-arg4 → tie.Else1
+measured c = c .before .before .before .before
+
+pub explain-spec : {M : Type 1} → statement M
+explain-spec =
+    tie.close
+    (tie.spec
+    (λ c κs. search needs)
+    (λ c κs. search needs)
+    (λ c. rw (c .refused .ensures, ← c .before .before .status-of .ensures) (refused-outcome _ (c .before .if1 .taken)))
+    (λ c κs. let past = measured c in sym (past .before .status-of .ensures) ∙ past .if1 .left)
+    (λ c. search needs)
+    (λ c. search needs)
+    (λ c. search needs)
+    (λ c. search needs)
+    (λ c. search needs))

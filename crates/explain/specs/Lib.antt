@@ -1,0 +1,2 @@
+pub mod Explain
+pub mod Promises

@@ -1,0 +1,3 @@
+pub mod Spoilt
+pub mod Made
+pub mod Meaning

@@ -1,0 +1,91 @@
+-- `walk::approach` meets its contract. The loop keeps `Walked`: it goes on by an alignment that ends before b, and then by those that are passed over
+-- quickly. The measure is what is left before b. Assumes nothing.
+use mathlib.Core.Path.{refl}
+use Prim.Native.Nat.{_+_, _-_, _≤_, _<_}
+use native.Mathlib.Omega.{arith}
+use lib.ListN.{length}
+use Rattle.steps.proofs.Text.{span-length}
+use Rattle.alignments.proofs.Shifts.{pattern-taken}
+use Rattle.walk.proofs.Passing.{repeats-after, order-after}
+use Rattle.walk.proofs.Walked.{walked-first, walked-over, further}
+use Rattle.walk.proofs.approach.Statement.{statement}
+use Rattle.walk.proofs.approach.Tie as tie
+use Rattle.walk.specs.Walk.{Walk-ready, Walked}
+
+abbrev Inv-loop : tie.InvT-loop
+Inv-loop pattern text order delta2 delta1 delta3 p b m here₀ here = Walked pattern text b here (length pattern)
+
+abbrev μ-loop : tie.MeasureT-loop
+μ-loop pattern text order delta2 delta1 delta3 p b m here₀ here = b - here .position
+
+-- the places of the code: where a turn of the loop starts, and where the next alignment is known
+abbrev Turn : Type 0
+Turn = tie.At-loop Inv-loop μ-loop
+
+abbrev Next : Type 0
+Next = tie.After-laid-after Inv-loop μ-loop
+
+-- the function's entry
+abbrev start : Turn → tie.Start Inv-loop μ-loop
+start c = c .before .before .before .before .before .before
+
+ready :
+    (c : Turn) → let a = start c .args in
+    Walk-ready (a .pattern .now) (a .text .now) (a .order .now) (a .delta2 .now) (a .delta1 .now) (a .delta3 .now) (a .p) (a .b)
+ready c = start c .pre
+
+-- the numbers are small
+small :
+    (c : Turn) → let a = start c .args in
+    (c .loop .here .position ≤ a .b) × (a .b + length (a .pattern .now) ≤ length (a .text .now)) × (length (a .text .now) ≤ 16384)
+small c =
+    let a = start c .args in
+    (c .loop .inv .low, omega (arith, ready c .inside, span-length (a .pattern .now) (a .text .now)), ready c .rows .taken .text)
+
+-- the alignment is passed over
+abbrev turn : Next → Turn
+turn c = c .before .before .before .before
+
+passed :
+    (c : Next) → let a = start (turn c) .args in
+    Walked (a .pattern .now) (a .text .now) (a .b) (c .laid-after .result) (length (a .pattern .now))
+passed c =
+    let d = turn c in
+    walked-over (ready d .rows .taken) (start d .args .b) (ready d .inside) (d .loop .inv) (c .laid-after .ensures) refl (c .before .before .if1 .taken)
+
+-- and the next one is further on
+on : (c : Next) → turn c .loop .here .position < c .laid-after .result .position
+on c = let d = turn c in further (ready d .rows .taken) (start d .args .b) (ready d .inside) (d .loop .inv) (c .laid-after .ensures)
+
+pass-occurrences-requires : tie.Need-pass-occurrences-requires Inv-loop μ-loop
+pass-occurrences-requires c κs =
+    let n = c .before .before in
+    let d = turn n in
+    let after = repeats-after (d .loop .here) (n .before .agreeing .ensures) (c .before .row-length .ensures) (n .laid-after .ensures) (c .if2 .taken) in
+    (ready d .rows, (ready d .inside, (after, passed n)))
+
+pass-differing-requires : tie.Need-pass-differing-requires Inv-loop μ-loop
+pass-differing-requires c κs =
+    let n = c .before .before in
+    let d = turn n in
+    let after = order-after (d .loop .here) (n .before .agreeing .ensures) (c .before .row-length .ensures) (n .laid-after .ensures) (c .if2 .left) in
+    (ready d .shifts .delta1-ready, (ready d .rows .taken, (ready d .inside, (after, passed n))))
+
+pub approach-spec : {M : Type 1} → statement M
+approach-spec =
+    tie.close
+    (tie.spec
+    Inv-loop
+    μ-loop
+    (λ c. let r = c .before .before .before .before .before .pre in walked-first (r .rows .taken) _ (r .inside))
+    (λ c. omega (arith, small (c .before)))
+    (λ c κs. let d = c .before .before in (ready d .rows, d .loop .inv .laid))
+    (λ c κs. let d = c .before .before .before in (ready d .shifts, (d .loop .inv .laid, c .agreeing .ensures)))
+    (λ c κs. let r = ready (turn c) .rows in (pattern-taken (r .taken), r .period-is))
+    pass-occurrences-requires
+    pass-differing-requires
+    (λ c. omega (arith, on (c .before .before .before), c .pass-occurrences .ensures .0, c .pass-occurrences .ensures .1 .low))
+    (λ c. c .pass-occurrences .ensures .1)
+    (λ c. omega (arith, on (c .before .before .before), c .pass-differing .ensures .0, c .pass-differing .ensures .1 .low))
+    (λ c. c .pass-differing .ensures .1)
+    (λ c. c .before .before .loop .inv))

@@ -1,0 +1,89 @@
+-- `walk::pass_differing` meets its contract. The loop keeps `Walked`, and each turn is the law of an alignment whose first comparison differs.
+-- The measure is what is left before b. Assumes nothing.
+use mathlib.Core.Bool.{false}
+use mathlib.Core.Path.{_≡_}
+use Prim.Native.Nat.{_+_, _-_, _≤_}
+use native.Mathlib.Omega.{arith}
+use borrow.Author.Tests.{eqb-false, not-true}
+use lib.ListN.{length}
+use Rattle.steps.proofs.Text.{span-length}
+use Rattle.steps.specs.Text.{span}
+use Rattle.progress.specs.Progress.{Taken}
+use Rattle.walk.proofs.Passing.{at, passed-differing}
+use Rattle.walk.proofs.pass_differing.Statement.{statement}
+use Rattle.walk.proofs.pass_differing.Tie as tie
+use Rattle.walk.specs.Walk.{Walked}
+
+abbrev Inv-loop : tie.InvT-loop
+Inv-loop pattern text delta1 b m last position₀ shift₀ position shift =
+    Walked pattern text b (at position shift false) (length pattern) × (position₀ ≤ position)
+
+abbrev μ-loop : tie.MeasureT-loop
+μ-loop pattern text delta1 b m last position₀ shift₀ position shift = b - position
+
+-- where a turn of the loop starts, and the function's entry
+abbrev Turn : Type 0
+Turn = tie.At-loop Inv-loop μ-loop
+
+abbrev start : Turn → tie.Start Inv-loop μ-loop
+start c = c .before .before .before .before
+
+taken : (c : Turn) → let a = start c .args in Taken (a .pattern .now) (a .text .now)
+taken c = start c .pre .1 .0
+
+-- the numbers are small
+small :
+    (c : Turn) → let a = start c .args in
+    (c .loop .position ≤ a .b)
+    × (a .b + length (a .pattern .now) ≤ length (a .text .now))
+    × (length (a .text .now) ≤ 16384)
+    × (1 ≤ length (a .pattern .now))
+small c =
+    let a = start c .args in
+    (c .loop .inv .0 .low, omega (arith, start c .pre .1 .1 .0, span-length (a .pattern .now) (a .text .now)), taken c .text, taken c .some)
+
+-- the pattern is laid as it is at entry
+begun :
+    (c : tie.Start Inv-loop μ-loop) → let a = c .args in let x = a .here in
+    Walked (a .pattern .now) (a .text .now) (a .b) (at (x .position) (x .shift) false) (length (a .pattern .now))
+begun c =
+    let x = c .args .here in
+    let same : x ≡ at (x .position) (x .shift) false = λ i. at (x .position) (x .shift) (c .pre .1 .1 .1 .0 i) in
+    rw same at (c .pre .1 .1 .1 .1)
+
+-- the alignment is passed over
+abbrev turn : tie.After-first-shift Inv-loop μ-loop → Turn
+turn c = c .before .before .before .before .before
+
+passed :
+    (c : tie.After-first-shift Inv-loop μ-loop) → let a = start (turn c) .args in let k = c .first-shift .result in
+    Walked (a .pattern .now) (a .text .now) (a .b) (at (turn c .loop .position + k) k false) (length (a .pattern .now))
+passed c =
+    let d = turn c in
+    passed-differing (taken d) (start d .args .b) (start d .pre .1 .1 .0) (d .loop .inv .0) (c .before .before .before .before .loop-test .taken)
+    (eqb-false _ _ (not-true _ (c .before .if1 .taken))) (c .first-shift .ensures)
+
+first-shift-requires : tie.Need-first-shift-requires Inv-loop μ-loop
+first-shift-requires c κs =
+    let d = c .before .before .before .before in
+    let laid = d .loop .inv .0 .laid in
+    (start d .pre .0, (taken d, (laid .inside, (laid .positive, laid .within))))
+
+pub pass-differing-spec : {M : Type 1} → statement M
+pass-differing-spec =
+    tie.close
+    (tie.spec
+    Inv-loop
+    μ-loop
+    (λ c. c .before .before .before .pre .1 .0 .some)
+    (λ c. (begun (c .before .before .before), omega arith))
+    (λ c. omega (arith, small c))
+    (λ c. omega (arith, small (c .before)))
+    (λ c. omega (arith, small (c .before .before)))
+    (λ c. omega (arith, small (c .before .before .before)))
+    first-shift-requires
+    (λ c. omega (arith, passed c .low, small (turn c)))
+    (λ c. omega (arith, passed c .low, passed c .laid .positive))
+    (λ c. (passed c, omega (arith, turn c .loop .inv .1)))
+    (λ c. let d = c .before .before .before .before in (d .loop .inv .1, d .loop .inv .0))
+    (λ c. let d = c .before in (d .loop .inv .1, d .loop .inv .0)))

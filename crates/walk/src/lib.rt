@@ -1,0 +1,175 @@
+// The walk along the alignments of a search to the one that reaches a position b: it is laid there or shifts past it.
+use alignments::Laid;
+ghost use mathlib.Core.Bool.{false};
+ghost use mathlib.Core.Path.{_≡_};
+ghost use Prim.Native.Nat.{_+_, _≤_, _<_};
+ghost use lib.ListN.{length};
+ghost use Rattle.tables.specs.Tables.{stored-Δ1, repeats};
+ghost use Rattle.steps.specs.Steps.{compared};
+ghost use Rattle.steps.specs.Text.{shown, span};
+ghost use Rattle.progress.specs.Progress.{Begins, Taken, Compared-so};
+ghost use Rattle.alignments.specs.Laid.{Row-ready, Laid-inside, alignment};
+ghost use Rattle.explanations.specs.Explanation.{first-spoilt};
+ghost use Rattle.walk.specs.Walk.{Walk-ready, Walked, Reached-at};
+
+// The alignment that reaches a position.
+pub struct Reached {
+    pub position: usize,
+    pub repeat: bool,
+    // how many of its comparisons agreed
+    pub agreed: usize,
+    // the pattern position at which the earliest comparison up to it spoils the position; m if none does
+    pub spoilt: usize,
+}
+
+// Passes over the alignments by the order that end before b, as long as their first comparison, that of the last position, differs.
+fn pass_differing(pattern: &[u8], text: &[u8], delta1: &[u16], here: Laid, b: usize) -> Laid
+    requires { ⌜ Begins (stored-Δ1 (now pattern)) (now delta1) ⌝ }
+    requires { ⌜ Taken (now pattern) (now text) ⌝ }
+    requires { ⌜ b + length (now pattern) ≤ span (now pattern) (now text) ⌝ }
+    requires { ⌜ here .repeat ≡ false ⌝ }
+    requires { ⌜ Walked (now pattern) (now text) b here (length (now pattern)) ⌝ }
+    ensures { λ r. ⌜ here .position ≤ r .position ⌝ }
+    ensures { λ r. ⌜ Walked (now (pattern .entry)) (now (text .entry)) b r (length (now (pattern .entry))) ⌝ }
+{
+    let m = pattern.len();
+    let last = m - 1;
+    let mut position = here.position;
+    let mut shift = here.shift;
+    while position + m <= b && text[position + last] != pattern[last] {
+        shift = progress::first_shift(pattern, text, delta1, position, shift);
+        position += shift;
+    }
+    Laid {
+        position,
+        shift,
+        repeat: false,
+    }
+}
+
+// Passes over the alignments after an occurrence that end before b, as long as all of their comparisons agree: each is p further on, p the pattern's
+// period.
+fn pass_occurrences(
+    pattern: &[u8],
+    text: &[u8],
+    order: &[i16],
+    p: usize,
+    here: Laid,
+    b: usize,
+) -> Laid
+    requires { ⌜ Row-ready (now pattern) (now text) (now order) p ⌝ }
+    requires { ⌜ b + length (now pattern) ≤ span (now pattern) (now text) ⌝ }
+    requires { ⌜ here .repeat ≡ repeats (now pattern) ⌝ }
+    requires { ⌜ Walked (now pattern) (now text) b here (length (now pattern)) ⌝ }
+    ensures { λ r. ⌜ here .position ≤ r .position ⌝ }
+    ensures { λ r. ⌜ Walked (now (pattern .entry)) (now (text .entry)) b r (length (now (pattern .entry))) ⌝ }
+{
+    let m = pattern.len();
+    let repeat = here.repeat;
+    let count = alignments::row_length(pattern, p, repeat);
+    let mut next = here;
+    while next.position + m <= b && alignments::agreeing(pattern, text, order, p, next) == count {
+        next = Laid {
+            position: next.position + p,
+            shift: p,
+            repeat,
+        };
+    }
+    next
+}
+
+// Walks to the first alignment that ends past b: none before it makes a comparison at b or after it.
+fn approach(
+    pattern: &[u8],
+    text: &[u8],
+    order: &[i16],
+    delta2: &[u16],
+    delta1: &[u16],
+    delta3: &[u16],
+    p: usize,
+    b: usize,
+) -> Laid
+    requires { ⌜ Walk-ready (now pattern) (now text) (now order) (now delta2) (now delta1) (now delta3) p b ⌝ }
+    ensures { λ r. ⌜ Walked (now (pattern .entry)) (now (text .entry)) b r (length (now (pattern .entry))) ⌝ }
+{
+    let m = pattern.len();
+    let mut here = Laid {
+        position: 0,
+        shift: m,
+        repeat: false,
+    };
+    while here.position + m <= b {
+        let agreed = alignments::agreeing(pattern, text, order, p, here);
+        let next = alignments::laid_after(pattern, text, delta2, delta1, delta3, p, here, agreed);
+        here = if agreed == alignments::row_length(pattern, p, here.repeat) {
+            pass_occurrences(pattern, text, order, p, next, b)
+        } else {
+            pass_differing(pattern, text, delta1, next, b)
+        };
+    }
+    here
+}
+
+// The pattern position at which the first comparison of an alignment that spoils b spoils it, where so many of them agreed; m if none does.
+fn spoilt_by(
+    pattern: &[u8],
+    text: &[u8],
+    order: &[i16],
+    p: usize,
+    here: Laid,
+    agreed: usize,
+    b: usize,
+) -> usize
+    requires { ⌜ Row-ready (now pattern) (now text) (now order) p ⌝ }
+    requires { ⌜ Laid-inside (now pattern) (now text) here ⌝ }
+    requires { ⌜ Compared-so (now pattern) (now text) (here .position) (here .repeat) agreed ⌝ }
+    requires { ⌜ here .position ≤ b ⌝ }
+    ensures { λ r. ⌜ r ≡ first-spoilt (shown (now (text .entry))) (now (pattern .entry)) b
+        (compared (alignment (now (pattern .entry)) (now (text .entry)) here)) ⌝ }
+{
+    let count = alignments::row_length(pattern, p, here.repeat);
+    let mut i = 0;
+    while i < count && i <= agreed {
+        let x = here.position + alignments::row_entry(pattern, order, here.repeat, i);
+        if b <= x && text[x] != pattern[x - b] {
+            return x - b;
+        }
+        i += 1;
+    }
+    pattern.len()
+}
+
+// Walks to the alignment that reaches b. It is public for the crate that explains, which has prepared the pattern.
+pub fn reach(
+    pattern: &[u8],
+    text: &[u8],
+    order: &[i16],
+    delta2: &[u16],
+    delta1: &[u16],
+    delta3: &[u16],
+    p: usize,
+    b: usize,
+) -> Reached
+    requires { ⌜ Walk-ready (now pattern) (now text) (now order) (now delta2) (now delta1) (now delta3) p b ⌝ }
+    ensures { λ r. ⌜ Reached-at (now (pattern .entry)) (now (text .entry)) b r ⌝ }
+{
+    let m = pattern.len();
+    let mut here = approach(pattern, text, order, delta2, delta1, delta3, p, b);
+    let mut spoilt = m;
+    loop {
+        let agreed = alignments::agreeing(pattern, text, order, p, here);
+        if spoilt == m {
+            spoilt = spoilt_by(pattern, text, order, p, here, agreed, b);
+        }
+        let next = alignments::laid_after(pattern, text, delta2, delta1, delta3, p, here, agreed);
+        if b < next.position {
+            return Reached {
+                position: here.position,
+                repeat: here.repeat,
+                agreed,
+                spoilt,
+            };
+        }
+        here = next;
+    }
+}
