@@ -1,5 +1,6 @@
-//! The calls of the Rattle library, as `rt staticlib ruffarmoire` builds it. The calls take any
-//! arguments, so the safe functions here only turn slices into pointers and lengths.
+//! The eleven calls of the Rattle library, as `rt staticlib ruffarmoire` builds it. The calls take
+//! any arguments, so the safe functions here only turn slices into pointers and lengths;
+//! `explained` also reads the answer of `explain`.
 
 // A test program calls only what it tests.
 #![allow(dead_code)]
@@ -10,11 +11,14 @@ compile_error!(
 );
 
 use ruffarmoire_model::answers::{
-    Answer, PriceAnswer, ReadAnswer, ReportAnswer, TurnAnswer, WriteAnswer,
+    Answer, ExplainAnswer, PriceAnswer, ReadAnswer, ReportAnswer, TurnAnswer, WriteAnswer,
 };
+use ruffarmoire_model::explain::{Explained, Unexplained};
 
 mod foreign {
-    use super::{Answer, PriceAnswer, ReadAnswer, ReportAnswer, TurnAnswer, WriteAnswer};
+    use super::{
+        Answer, ExplainAnswer, PriceAnswer, ReadAnswer, ReportAnswer, TurnAnswer, WriteAnswer,
+    };
 
     #[link(name = "ruffarmoire", kind = "static")]
     extern "C" {
@@ -136,6 +140,22 @@ mod foreign {
             found: *mut u16,
             found_length: usize,
         ) -> PriceAnswer;
+
+        pub fn explain(
+            position: u32,
+            pattern: *const u8,
+            pattern_length: usize,
+            text: *const u8,
+            text_length: usize,
+            order: *mut i16,
+            order_length: usize,
+            delta2: *mut u16,
+            delta2_length: usize,
+            delta1: *mut u16,
+            delta1_length: usize,
+            delta3: *mut u16,
+            delta3_length: usize,
+        ) -> ExplainAnswer;
     }
 }
 
@@ -339,4 +359,52 @@ pub fn price(
             found.len(),
         )
     }
+}
+
+/// Explains a position of the text, in numbers. The buffers are for the tables of the pattern, as
+/// in `prepare`: for m bytes at least m + 1 entries each of `order` and `delta2`, 256 m of `delta1`
+/// and m of `delta3`.
+pub fn explain(
+    position: u32,
+    pattern: &[u8],
+    text: &[u8],
+    order: &mut [i16],
+    delta2: &mut [u16],
+    delta1: &mut [u16],
+    delta3: &mut [u16],
+) -> ExplainAnswer {
+    // SAFETY: each pointer and length is that of a slice that stays borrowed during the call.
+    unsafe {
+        foreign::explain(
+            position,
+            pattern.as_ptr(),
+            pattern.len(),
+            text.as_ptr(),
+            text.len(),
+            order.as_mut_ptr(),
+            order.len(),
+            delta2.as_mut_ptr(),
+            delta2.len(),
+            delta1.as_mut_ptr(),
+            delta1.len(),
+            delta3.as_mut_ptr(),
+            delta3.len(),
+        )
+    }
+}
+
+/// Explains a position of the text as `explain` does, with the same buffers. The explanation comes
+/// as an enum beside its position, or else the refusal. `to_string` of either is for a minder to
+/// read.
+pub fn explained(
+    position: u32,
+    pattern: &[u8],
+    text: &[u8],
+    order: &mut [i16],
+    delta2: &mut [u16],
+    delta1: &mut [u16],
+    delta3: &mut [u16],
+) -> Result<Explained, Unexplained> {
+    let answer = explain(position, pattern, text, order, delta2, delta1, delta3);
+    Explained::told(position, answer)
 }

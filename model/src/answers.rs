@@ -21,6 +21,8 @@ pub enum Refusal {
     Way,
     /// 9: frames that are no conversion under this pattern and hold offset.
     NoConversion,
+    /// 10: a position b with b + m above n.
+    Position,
 }
 
 impl Refusal {
@@ -36,6 +38,7 @@ impl Refusal {
             Refusal::ShortBuffer => 7,
             Refusal::Way => 8,
             Refusal::NoConversion => 9,
+            Refusal::Position => 10,
         }
     }
 }
@@ -107,6 +110,22 @@ pub struct PriceAnswer {
     pub pence: u32,
 }
 
+/// What explaining a position answers. A number that is not told is 0.
+#[repr(C)]
+#[derive(Clone, Copy, Debug, Default, PartialEq, Eq)]
+pub struct ExplainAnswer {
+    pub answer: Answer,
+    /// 1 for listed, 2 for tried, 3 for passed over.
+    pub outcome: u32,
+    /// Of tried, the pattern's position that differed; of passed over, the j that the earliest
+    /// comparison spoils.
+    pub place: u32,
+    /// Of passed over, the position that the pattern was shifted from.
+    pub from: u32,
+    /// Of passed over, the kind of shift: 1 last byte, 2 order, 3 after an occurrence, 4 long repeat.
+    pub kind: u32,
+}
+
 /// A refused answer holds the refusal and zeros elsewhere.
 impl From<Refusal> for Answer {
     fn from(refusal: Refusal) -> Answer {
@@ -158,6 +177,15 @@ impl From<Refusal> for PriceAnswer {
         PriceAnswer {
             answer: refusal.into(),
             ..PriceAnswer::default()
+        }
+    }
+}
+
+impl From<Refusal> for ExplainAnswer {
+    fn from(refusal: Refusal) -> ExplainAnswer {
+        ExplainAnswer {
+            answer: refusal.into(),
+            ..ExplainAnswer::default()
         }
     }
 }

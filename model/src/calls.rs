@@ -5,8 +5,9 @@
 //! call puts no entry into any buffer.
 
 use crate::answers::{
-    Answer, PriceAnswer, ReadAnswer, Refusal, ReportAnswer, TurnAnswer, WriteAnswer,
+    Answer, ExplainAnswer, PriceAnswer, ReadAnswer, Refusal, ReportAnswer, TurnAnswer, WriteAnswer,
 };
+use crate::explain::{check_position, explanation};
 use crate::job::{check_hold, check_pattern_length, check_text_length, Job};
 use crate::job::{file_length, first_line, lines};
 use crate::restore::restored;
@@ -437,6 +438,55 @@ fn try_price(
         left: Outcome {
             answer: Answer::default(),
             ..searched
+        },
+    })
+}
+
+/// What explaining a position leaves.
+#[derive(Clone, Debug, Default, PartialEq, Eq)]
+pub struct ExplainOutcome {
+    pub answer: ExplainAnswer,
+    /// What preparing leaves in the buffers. The answer in it is the one without the explanation.
+    pub left: Outcome,
+}
+
+/// Explains a position of the text: why it is an occurrence or is none.
+pub fn explain(
+    position: u32,
+    pattern: &[u8],
+    text: &[u8],
+    lengths: TableLengths,
+) -> ExplainOutcome {
+    match try_explain(position, pattern, text, lengths) {
+        Ok(outcome) => outcome,
+        Err(refusal) => ExplainOutcome {
+            answer: refusal.into(),
+            left: refusal.into(),
+        },
+    }
+}
+
+fn try_explain(
+    position: u32,
+    pattern: &[u8],
+    text: &[u8],
+    lengths: TableLengths,
+) -> Result<ExplainOutcome, Refusal> {
+    let (m, n) = (pattern.len(), text.len());
+    check_pattern_length(m)?;
+    check_text_length(n)?;
+    lengths.check(m)?;
+    check_position(position as usize, m, n)?;
+    let tables = Tables::of(pattern);
+    let done = steps::search_with(&tables, pattern, text);
+    Ok(ExplainOutcome {
+        answer: explanation(&done, pattern, text, position as usize).into(),
+        left: Outcome {
+            order: tables.order,
+            delta1: tables.delta1,
+            delta2: tables.delta2,
+            delta3: tables.delta3,
+            ..Outcome::default()
         },
     })
 }

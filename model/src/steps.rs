@@ -1,4 +1,4 @@
-//! The steps of a search, with every comparison.
+//! The steps of a search, with every alignment and every comparison.
 
 use crate::tables::Tables;
 
@@ -11,11 +11,26 @@ pub struct Comparison {
     pub text_position: usize,
 }
 
+/// The pattern laid at one position of the text.
+#[derive(Clone, Copy, Debug, PartialEq, Eq)]
+pub struct Alignment {
+    /// b
+    pub position: usize,
+    /// Whether it is a repeat: the one after an occurrence, where m is at least 3 p.
+    pub is_repeat: bool,
+    /// The pattern's position whose comparison differed, or none where all agreed.
+    pub differing: Option<usize>,
+    /// How far the next alignment is.
+    pub shift: usize,
+}
+
 /// What a search does and finds.
 #[derive(Clone, Debug, Default, PartialEq, Eq)]
 pub struct Search {
     /// The positions b where all comparisons agreed, in the order of the steps.
     pub occurrences: Vec<usize>,
+    /// All alignments, in the order of the steps.
+    pub alignments: Vec<Alignment>,
     /// All comparisons, in the order of the steps. C is their number.
     pub comparisons: Vec<Comparison>,
 }
@@ -42,10 +57,17 @@ pub fn search_with(tables: &Tables, pattern: &[u8], text: &[u8]) -> Search {
         } else {
             run.ordinary_alignment(b, s)
         };
-        if outcome.occurs {
+        run.done.alignments.push(Alignment {
+            position: b,
+            is_repeat,
+            differing: outcome.differing,
+            shift: outcome.shift,
+        });
+        let occurs = outcome.differing.is_none();
+        if occurs {
             run.done.occurrences.push(b);
         }
-        is_repeat = outcome.occurs && tables.is_long_repeat();
+        is_repeat = occurs && tables.is_long_repeat();
         s = outcome.shift;
         b += s;
     }
@@ -54,8 +76,8 @@ pub fn search_with(tables: &Tables, pattern: &[u8], text: &[u8]) -> Search {
 
 /// What comes of an alignment.
 struct Outcome {
-    /// Whether all comparisons agreed.
-    occurs: bool,
+    /// The position whose comparison differed, or none where all agreed.
+    differing: Option<usize>,
     /// How far the next alignment is.
     shift: usize,
 }
@@ -75,7 +97,7 @@ impl Run<'_> {
         let m = self.pattern.len();
         if !self.compare(b, m - 1) {
             return Outcome {
-                occurs: false,
+                differing: Some(m - 1),
                 shift: self.tables.delta1(self.text[b + m - 1], s),
             };
         }
@@ -84,7 +106,7 @@ impl Run<'_> {
             i += 1;
         }
         Outcome {
-            occurs: i == m + 1,
+            differing: (i <= m).then(|| self.tables.h(i)),
             shift: self.tables.delta2(i),
         }
     }
@@ -95,7 +117,7 @@ impl Run<'_> {
         let (m, p) = (self.pattern.len(), self.tables.period);
         let differing = (m - p..m).rev().find(|&i| !self.compare(b, i));
         Outcome {
-            occurs: differing.is_none(),
+            differing,
             shift: match differing {
                 None => p,
                 Some(i) if i == m - 1 => self.tables.delta1(self.text[b + m - 1], p),

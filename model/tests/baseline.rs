@@ -7,6 +7,7 @@ mod common;
 mod baseline;
 
 use common::converter_suite::ConverterCalls;
+use common::explain_suite::ExplainCalls;
 use common::job_suite::JobCalls;
 use common::matcher_suite::MatcherCalls;
 use common::prepare_suite::PrepareCalls;
@@ -18,7 +19,7 @@ use common::searches;
 use common::table_buffers::{entries, LentTables};
 use common::turn_suite::TurnCalls;
 use ruffarmoire_model::answers::{
-    Answer, PriceAnswer, ReadAnswer, ReportAnswer, TurnAnswer, WriteAnswer,
+    Answer, ExplainAnswer, PriceAnswer, ReadAnswer, ReportAnswer, TurnAnswer, WriteAnswer,
 };
 use ruffarmoire_model::convert;
 
@@ -141,6 +142,18 @@ impl PriceCalls for Baseline {
     }
 }
 
+impl ExplainCalls for Baseline {
+    fn explain(position: u32, pattern: &[u8], text: &[u8], tables: LentTables) -> ExplainAnswer {
+        let LentTables {
+            order,
+            delta2,
+            delta1,
+            delta3,
+        } = tables;
+        baseline::explain::explain(position, pattern, text, order, delta2, delta1, delta3)
+    }
+}
+
 mod job {
     job_suite!(crate::Baseline);
 }
@@ -181,6 +194,10 @@ mod restore {
 
 mod price {
     price_suite!(crate::Baseline);
+}
+
+mod explain {
+    explain_suite!(crate::Baseline);
 }
 
 /// What `memmem` and the plain scan find.

@@ -4,11 +4,14 @@ mod common;
 
 use std::collections::{BTreeMap, BTreeSet};
 
+use common::explanations::{Compared, LastTables, Seen};
+use common::searches::{self, Pair};
 use common::words::words;
 use common::{bounds, facts, repeats};
-use ruffarmoire_model::answers::{Answer, Refusal};
+use ruffarmoire_model::answers::{Answer, ExplainAnswer, Refusal};
 use ruffarmoire_model::calls::{self, TableLengths};
 use ruffarmoire_model::convert;
+use ruffarmoire_model::explain::{explanation, Explanation, ShiftKind, Unexplained, SHIFT_KINDS};
 use ruffarmoire_model::gen::{Random, Shape, SHAPES};
 use ruffarmoire_model::job::{self, Job};
 use ruffarmoire_model::price::{cost, rebate, total};
@@ -43,7 +46,8 @@ fn check_search(tables: &Tables, pattern: &[u8], text: &[u8]) -> Search {
 }
 
 /// A text that agrees with the first one wherever the search compared has the same comparisons in
-/// the same order, the same occurrences and the same holds. Tells whether the two texts differ.
+/// the same order, the same alignments, occurrences and holds, and the same explanations. Tells whether
+/// the two texts differ.
 fn check_pair(
     random: &mut Random,
     tables: &Tables,
@@ -68,6 +72,14 @@ fn check_pair(
         first, second,
         "pattern {pattern:?}, texts {text:?} and {other:?}"
     );
+    // All positions of a short text, four of a long one.
+    let positions = (text.len() + 1).saturating_sub(pattern.len());
+    for b in (0..positions).step_by(if positions < 40 { 1 } else { positions / 4 + 1 }) {
+        assert_eq!(
+            explanation(&first, pattern, text, b),
+            explanation(&second, pattern, &other, b)
+        );
+    }
     let last = pattern.len() - 1;
     for hold in [0, random.between(0, last), last] {
         let marked = |text: &[u8]| -> Vec<usize> {
@@ -609,5 +621,186 @@ fn costs_with_and_without_a_rebate() {
             let priced = calls::price(job.hold as u32, &job.pattern, &job.text, lengths, n);
             assert_eq!(priced.answer.pence, expected);
         }
+    }
+}
+
+/// The model's explanation of every position of some texts, held to what it means.
+fn check_explanations(pairs: impl Iterator<Item = Pair>) -> Seen {
+    let mut seen = Seen::default();
+    let mut tables = LastTables::default();
+    for (pattern, text) in pairs {
+        let done = search_with(tables.of(&pattern), &pattern, &text);
+        let compared = Compared::of(&pattern, &text, &done.comparisons);
+        for b in 0..compared.positions() {
+            let told = explanation(&done, &pattern, &text, b);
+            seen.add(compared.check(b, told));
+        }
+    }
+    seen
+}
+
+/// Every pattern of up to 6 bytes with every text of up to 11 over two, and of up to 4 with up to 7 over
+/// three.
+#[test]
+fn explanations_of_all_short_texts() {
+    fn all(
+        bytes: &'static [u8],
+        most_m: usize,
+        most_n: usize,
+    ) -> impl Iterator<Item = Pair> + 'static {
+        words(bytes, 1..most_m + 1).flat_map(move |pattern| {
+            words(bytes, 0..most_n + 1).map(move |text| (pattern.clone(), text))
+        })
+    }
+    check_explanations(all(&[0, 1], 6, 11));
+    check_explanations(all(&[0, 1, 2], 4, 7));
+}
+
+#[test]
+fn explanations_of_generated_texts() {
+    let texts = searches::short()
+        .chain(searches::longer())
+        .chain(searches::structured())
+        .chain(searches::about_as_long());
+    check_explanations(texts).expect_every_case(10);
+    let mut random = Random::seeded(15);
+    let over = |random: &mut Random, bytes: usize, length: usize| -> Vec<u8> {
+        (0..length).map(|_| random.below(bytes) as u8).collect()
+    };
+    let short = (0..20_000).map(|round| {
+        let bytes = [1, 2, 3, 4, 256][round % 5];
+        let (m, n) = (random.between(1, 10), random.between(0, 50));
+        (over(&mut random, bytes, m), over(&mut random, bytes, n))
+    });
+    check_explanations(short);
+}
+
+/// Runs of a period broken at every position, with any end, and mixed.
+#[test]
+fn explanations_of_long_repeats() {
+    check_explanations(repeats::short_broken()).expect_every_case(30);
+    check_explanations(repeats::mixed()).expect_every_case(30);
+    let with_ends = repeats::all_short().flat_map(|pattern| {
+        let texts: Vec<Pair> = repeats::with_any_end(&pattern)
+            .step_by(5)
+            .map(|text| (pattern.clone(), text))
+            .collect();
+        texts
+    });
+    check_explanations(with_ends);
+}
+
+#[test]
+fn explanations_of_largest_texts() {
+    let mut random = Random::seeded(16);
+    let texts = [
+        (random.bytes(128), random.bytes(16_384)),
+        (random.picked(&[6, 24], 16), random.picked(&[6, 24], 16_384)),
+        repeats::run_with_breaks(&mut random, 5, 128),
+        (vec![7; 128], vec![7; 16_384]),
+    ];
+    check_explanations(texts.into_iter());
+}
+
+/// What the call answers has the numbers of the explanation beside zeros, and it leaves the tables of
+/// preparing.
+#[test]
+fn explanations_in_answers() {
+    for (pattern, text) in searches::short().step_by(8) {
+        let lengths = TableLengths::needed(pattern.len());
+        let prepared = calls::prepare(&pattern, lengths);
+        let done = search_with(&Tables::of(&pattern), &pattern, &text);
+        for b in 0..=text.len() {
+            let outcome = calls::explain(b as u32, &pattern, &text, lengths);
+            if b + pattern.len() > text.len() {
+                assert_eq!(outcome.answer, Refusal::Position.into());
+                assert_eq!(outcome.left, Refusal::Position.into());
+                continue;
+            }
+            let told = explanation(&done, &pattern, &text, b);
+            assert_eq!(Explanation::try_from(outcome.answer), Ok(told));
+            assert_eq!(outcome.left.answer, Answer::default());
+            assert_eq!(outcome.left.order, prepared.order);
+            assert_eq!(outcome.left.delta1, prepared.delta1);
+            assert_eq!(outcome.left.delta2, prepared.delta2);
+            assert_eq!(outcome.left.delta3, prepared.delta3);
+        }
+    }
+}
+
+/// Listed, and the others with every kind and with positions up to 3.
+fn some_explanations() -> Vec<Explanation> {
+    let mut explanations = vec![Explanation::Listed];
+    for place in 0..4 {
+        explanations.push(Explanation::Tried { place });
+        for from in 0..4 {
+            for kind in SHIFT_KINDS {
+                explanations.push(Explanation::PassedOver { from, place, kind });
+            }
+        }
+    }
+    explanations
+}
+
+/// Answers that have any numbers as their explanation, right or not.
+fn any_answers() -> impl Iterator<Item = ExplainAnswer> {
+    words(&[0, 1, 2, 3, 4, 5, 7, u32::MAX], 4..5).map(|numbers| ExplainAnswer {
+        answer: Answer::default(),
+        outcome: numbers[0],
+        place: numbers[1],
+        from: numbers[2],
+        kind: numbers[3],
+    })
+}
+
+#[test]
+fn numbers_of_kinds() {
+    let numbers = SHIFT_KINDS.map(|kind| (kind, kind.number()));
+    assert_eq!(
+        numbers,
+        [
+            (ShiftKind::LastByte, 1),
+            (ShiftKind::Order, 2),
+            (ShiftKind::AfterOccurrence, 3),
+            (ShiftKind::LongRepeat, 4),
+        ]
+    );
+}
+
+/// Each explanation has numbers of its own, and no other numbers are those of an explanation.
+#[test]
+fn numbers_of_explanations() {
+    let mut answers = Vec::new();
+    for told in some_explanations() {
+        let answer = ExplainAnswer::from(told);
+        assert_eq!(answer.answer, Answer::default());
+        assert_eq!(Explanation::try_from(answer), Ok(told));
+        answers.push(answer);
+    }
+    for answer in any_answers() {
+        match Explanation::try_from(answer) {
+            Ok(told) => assert_eq!(ExplainAnswer::from(told), answer),
+            Err(unexplained) => {
+                assert_eq!(unexplained, Unexplained::NoExplanation);
+                assert!(!answers.contains(&answer));
+            }
+        }
+    }
+}
+
+/// Refused, whatever stands beside the status; and with a number where none is told.
+#[test]
+fn answers_without_an_explanation() {
+    for answer in any_answers() {
+        for status in [1, 4, 6, 7, 10, u32::MAX] {
+            let mut refused = answer;
+            refused.answer.status = status;
+            let unexplained = Err(Unexplained::Refused(status));
+            assert_eq!(Explanation::try_from(refused), unexplained);
+        }
+        let mut counted = answer;
+        counted.answer.comparisons = 1;
+        let unexplained = Err(Unexplained::NoExplanation);
+        assert_eq!(Explanation::try_from(counted), unexplained);
     }
 }

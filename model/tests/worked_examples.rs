@@ -1,5 +1,5 @@
-//! The model on document 01's worked examples ("Marked swatches"), on SEEK's listing, and on examples
-//! of document 02.
+//! The model on document 01's worked examples ("Marked swatches"), on SEEK's listing, and on
+//! examples of document 02.
 
 mod common;
 
@@ -8,9 +8,10 @@ use std::mem::offset_of;
 use common::bounds;
 use common::lengths::BufferLengths;
 use ruffarmoire_model::answers::{
-    Answer, PriceAnswer, ReadAnswer, ReportAnswer, TurnAnswer, WriteAnswer,
+    Answer, ExplainAnswer, PriceAnswer, ReadAnswer, ReportAnswer, TurnAnswer, WriteAnswer,
 };
 use ruffarmoire_model::calls::{self, TableLengths};
+use ruffarmoire_model::explain::{Explained, Explanation, ShiftKind, Unexplained};
 use ruffarmoire_model::job::{self, Job};
 use ruffarmoire_model::steps::{bound, search};
 use ruffarmoire_model::tables::{delta1, delta3, period, Tables};
@@ -101,8 +102,8 @@ fn example_10_ones() {
     assert_eq!(calls::count_ones(&[0xFF, 0x00]).ones, 8);
 }
 
-/// The searches whose period and bound are written out, by each call that works one out, and in what
-/// SEEK prints.
+/// The searches whose period and bound are written out, by each call that works one out, and in
+/// what SEEK prints.
 #[test]
 fn periods_and_bounds() {
     for search in bounds::written_out() {
@@ -158,6 +159,9 @@ fn answers_of_the_calls() {
     let priced = calls::price(2, &pattern, &text, lengths, 9);
     expect(priced.answer.answer, [0; 5]);
     expect(priced.left.answer, [0; 5]);
+    let explained = calls::explain(3, &pattern, &text, lengths);
+    expect(explained.answer.answer, [0; 5]);
+    expect(explained.left.answer, [0; 5]);
 }
 
 /// A refused answer has its number, and zeros also in what the call works out when it is done.
@@ -189,6 +193,10 @@ fn refused_answers() {
         (calls::restore(0, &pattern, &[257], 1).answer, 9),
         (calls::price(4, &pattern, &text, enough, 6).answer.answer, 5),
         (calls::price(0, &pattern, &text, enough, 5).answer.answer, 7),
+        (calls::explain(0, &[], &text, enough).answer.answer, 4),
+        (calls::explain(0, &pattern, &long, enough).answer.answer, 6),
+        (calls::explain(0, &pattern, &text, short).answer.answer, 7),
+        (calls::explain(3, &pattern, &text, enough).answer.answer, 10),
     ] {
         let expected = Answer {
             status,
@@ -202,7 +210,8 @@ fn refused_answers() {
     }
 }
 
-/// As C sees it, an answer is six numbers of 32 bits, and what a call answers more stands behind them.
+/// As C sees it, an answer is six numbers of 32 bits, and what a call answers more stands behind
+/// them.
 #[test]
 fn layout_of_answers() {
     let offsets = [
@@ -222,6 +231,14 @@ fn layout_of_answers() {
         offset_of!(PriceAnswer, pence),
     ];
     assert_eq!(behind, [24; 4]);
+    let explain = [
+        offset_of!(ExplainAnswer, outcome),
+        offset_of!(ExplainAnswer, place),
+        offset_of!(ExplainAnswer, from),
+        offset_of!(ExplainAnswer, kind),
+    ];
+    assert_eq!(explain, [24, 28, 32, 36]);
+    assert_eq!(size_of::<ExplainAnswer>(), 40);
     let read = [
         offset_of!(ReadAnswer, m),
         offset_of!(ReadAnswer, q),
@@ -322,27 +339,29 @@ fn slips_are_seen() {
 fn longest_steps() {
     let delta2 = |pattern: &[u8]| Tables::of(pattern).delta2;
 
-    // Of a a c a a, in the order 4, 3, 0, 1, 2, the sets Neg without 0 are {2}, {1}, {}, {}, {1, 2}, and
-    // Pos from i = 2 are {2, 3}, {}, {1}, {}. So 1 is left by Neg at 4 and by Pos at 3, and from i = 3
-    // on 3 is the least that the first two Neg leave; no other set but Pos at 3 has it.
+    // Of a a c a a, in the order 4, 3, 0, 1, 2, the sets Neg without 0 are {2}, {1}, {}, {},
+    // {1, 2}, and Pos from i = 2 are {2, 3}, {}, {1}, {}. So 1 is left by Neg at 4 and by Pos at 3,
+    // and from i = 3 on 3 is the least that the first two Neg leave; no other set but Pos at 3 has
+    // it.
     assert_eq!(delta2(&[A, A, C, A, A]), [0, 1, 3, 3, 3, 3]);
 
-    // Of c b a a a, in the order 4, 2, 3, 0, 1, the sets Neg without 0 are {3, 4}, {1, 2}, {2, 3}, {},
-    // {1}, and Pos from i = 2 are {}, {1}, {}, {}. So 1 is left by Neg at 4 and by Pos at 2; from i = 3
-    // on the first two Neg leave nothing below 5.
+    // Of c b a a a, in the order 4, 2, 3, 0, 1, the sets Neg without 0 are {3, 4}, {1, 2}, {2, 3},
+    // {}, {1}, and Pos from i = 2 are {}, {1}, {}, {}. So 1 is left by Neg at 4 and by Pos at 2;
+    // from i = 3 on the first two Neg leave nothing below 5.
     assert_eq!(delta2(&[C, B, A, A, A]), [0, 1, 5, 5, 5, 5]);
 
-    // Of c c a a a a, in the order 5, 2, 3, 4, 0, 1, the first three Neg without 0 are {4, 5}, {1, 2},
-    // {2, 3}, and Pos at 2 is {}, at 3 it is {1}. So Δ2(2) is 1, Δ2(3) is 3, which the first two Neg
-    // leave and which brings c to 3; from i = 4 on the first three Neg leave nothing below 6.
+    // Of c c a a a a, in the order 5, 2, 3, 4, 0, 1, the first three Neg without 0 are {4, 5},
+    // {1, 2}, {2, 3}, and Pos at 2 is {}, at 3 it is {1}. So Δ2(2) is 1, Δ2(3) is 3, which the
+    // first two Neg leave and which brings c to 3; from i = 4 on the first three Neg leave nothing
+    // below 6.
     assert_eq!(delta2(&[C, C, A, A, A, A]), [0, 1, 3, 6, 6, 6, 6]);
 
     // One byte throughout has no Neg but {}, and Pos at h has 1 to h.
     assert_eq!(delta2(&[A; 4]), [0, 1, 2, 3, 1]);
     assert_eq!(delta2(&[A]), [0, 1]);
 
-    // At 0, positions 4 and 2 agree and 3 differs: 3 comparisons. Five on is the occurrence: 5. At 2
-    // nothing is compared, where position 0 would lie on an a that was seen.
+    // At 0, positions 4 and 2 agree and 3 differs: 3 comparisons. Five on is the occurrence: 5. At
+    // 2 nothing is compared, where position 0 would lie on an a that was seen.
     let text = [C, C, A, C, A, C, B, A, A, A];
     check_search(&[C, B, A, A, A], &text, &[5], 8);
     assert_eq!(bound(&Tables::of(&[C, B, A, A, A]), text.len(), 1), 15);
@@ -358,13 +377,14 @@ fn long_repeats() {
     assert_eq!(tables.delta3(9), 7);
     assert_eq!(tables.delta3, [0, 0, 0, 0, 0, 0, 0, 0, 9, 7, 0]);
     assert_eq!(tables.delta2, [0, 1, 3, 3, 3, 6, 6, 6, 9, 9, 9, 3]);
-    // The first occurrence has 11 comparisons. Three on, position 10 agrees and 9 differs: 2. Seven on
-    // is the second occurrence: 11.
+    // The first occurrence has 11 comparisons. Three on, position 10 agrees and 9 differs: 2. Seven
+    // on is the second occurrence: 11.
     let text = [&pattern[..], &pattern[1..]].concat();
     assert_eq!(text.len(), 21);
     check_search(&pattern, &text, &[0, 10], 24);
     assert_eq!(bound(&tables, 21, 2), 31);
-    // A further period has its 3 bytes compared; where its last byte differs, one comparison is made.
+    // A further period has its 3 bytes compared; where its last byte differs, one comparison is
+    // made.
     let text = [&pattern[..], &[C, A, A]].concat();
     check_search(&pattern, &text, &[0, 3], 11 + 3);
     let text = [&pattern[..], &[C, A, C]].concat();
@@ -541,4 +561,303 @@ fn refusals_of_pricing() {
     assert_eq!(status(1, 1, 16_385, none, 0), 5);
     assert_eq!(status(0, 1, 16_385, none, 0), 6);
     assert_eq!(status(0, 1, 16_384, none, 0), 7);
+}
+
+/// The explanation of every position of a text, as numbers: outcome, place, from, kind.
+fn check_explanations(pattern: &[u8], text: &[u8], expected: &[[u32; 4]]) {
+    let lengths = TableLengths::needed(pattern.len());
+    let told: Vec<[u32; 4]> = (0..=text.len() - pattern.len())
+        .map(|b| {
+            let told = calls::explain(b as u32, pattern, text, lengths).answer;
+            assert_eq!(told.answer, Answer::default());
+            [told.outcome, told.place, told.from, told.kind]
+        })
+        .collect();
+    assert_eq!(told, expected);
+    let beyond = calls::explain(told.len() as u32, pattern, text, lengths);
+    assert_eq!(beyond.answer.answer.status, 10);
+}
+
+const LISTED: [u32; 4] = [1, 0, 0, 0];
+
+/// Document 02, "Why this scallop has no hold": the listing, and each kind of shift.
+#[test]
+fn explanations() {
+    // At 0 the comparisons are at 4, 3, 0, 1, 2. Of position 1 the one at 3 shows an a where c is
+    // due, of position 2 the one at 4. At 3 position 4 agrees and 3 differs.
+    check_explanations(
+        &[A, A, C, A, A],
+        &[A, A, C, A, A, A, C, A, A],
+        &[LISTED, [3, 2, 0, 3], [3, 2, 0, 3], [2, 3, 0, 0], LISTED],
+    );
+    check_explanations(&[A], &[A], &[LISTED]);
+    check_explanations(&[A; 4], &[A; 6], &[LISTED; 3]);
+    check_explanations(&[A], &[A, C, A], &[LISTED, [2, 0, 0, 0], LISTED]);
+
+    // The last byte differs, and b is not in the pattern: the shift is 2.
+    check_explanations(
+        &[A, C],
+        &[A, B, A, C],
+        &[[2, 1, 0, 0], [3, 0, 0, 1], LISTED],
+    );
+
+    // Positions 4 and 2 agree and 3 differs: the shift is Δ2(3) = 5. The a at text position 4
+    // spoils what lays b or c there, but the a at 2 was compared after it and is the earliest that
+    // spoils 1 and 2.
+    check_explanations(
+        &[C, B, A, A, A],
+        &[C, C, A, B, A, C, B, A, A, A],
+        &[
+            [2, 3, 0, 0],
+            [3, 1, 0, 2],
+            [3, 0, 0, 2],
+            [3, 1, 0, 2],
+            [3, 0, 0, 2],
+            LISTED,
+        ],
+    );
+
+    // The last byte of a repeat differs: a long repeat all the same.
+    check_explanations(
+        &[A; 4],
+        &[A, A, A, A, C, A, A, A, A],
+        &[
+            LISTED,
+            [2, 3, 0, 0],
+            [3, 2, 1, 4],
+            [3, 1, 1, 4],
+            [3, 0, 1, 4],
+            LISTED,
+        ],
+    );
+
+    // Here it shows c, which the pattern has next to its end: Δ1(c, 6) is 1, but after a shift of 2
+    // it is 5. The comparisons at 0 are at 5 and then from 0 on. Text position 5 spoils 3 and 5, 7
+    // the others.
+    let pattern = [C, A, C, A, C, A];
+    assert_eq!((delta1(&pattern, C, 6), delta1(&pattern, C, 2)), (1, 5));
+    check_explanations(
+        &pattern,
+        &[C, A, C, A, C, A, C, C, A, C, A, C, A],
+        &[
+            LISTED,
+            [3, 4, 0, 3],
+            [2, 5, 0, 0],
+            [3, 2, 2, 4],
+            [3, 3, 2, 4],
+            [3, 0, 2, 4],
+            [3, 1, 2, 4],
+            LISTED,
+        ],
+    );
+}
+
+/// Two copies of a long repeat that share a byte. The first occurrence is compared at 10, 9 and
+/// then from 0 on. The repeat at 3 has position 10 agree and 9 differ, at text position 12, and its
+/// shift is Δ3(9) = 7. Of what it passes over only 6 and 9 are not spoilt by the occurrence before.
+#[test]
+fn explanations_of_a_long_repeat() {
+    let pattern = [A, A, C, A, A, C, A, A, C, A, A];
+    assert_eq!(Tables::of(&pattern).order[..4], [10, 9, 0, 1]);
+    let text = [&pattern[..], &pattern[1..]].concat();
+    check_explanations(
+        &pattern,
+        &text,
+        &[
+            LISTED,
+            [3, 8, 0, 3],
+            [3, 8, 0, 3],
+            [2, 9, 0, 0],
+            [3, 5, 3, 4],
+            [3, 5, 3, 4],
+            [3, 6, 3, 4],
+            [3, 2, 3, 4],
+            [3, 2, 3, 4],
+            [3, 3, 3, 4],
+            LISTED,
+        ],
+    );
+}
+
+/// The earliest comparison of the whole search, which may be of an alignment before the one that
+/// was shifted from.
+#[test]
+fn explanations_by_an_earlier_alignment() {
+    // At 0 text position 2 shows an a, which spoils 2. At 1 the last byte differs, at text position
+    // 3: that spoils 2 as well.
+    check_explanations(
+        &[C, A, A],
+        &[A, C, A, C, A],
+        &[[2, 1, 0, 0], [2, 2, 0, 0], [3, 0, 1, 1]],
+    );
+    // The same text position spoils 2 where a later comparison of the order differs at 1, and where
+    // all agree there.
+    check_explanations(
+        &[A, C, A],
+        &[A, C, C, A, A],
+        &[[2, 2, 0, 0], [2, 0, 0, 0], [3, 0, 1, 2]],
+    );
+    check_explanations(
+        &[C, A, A],
+        &[A, C, A, A, A],
+        &[[2, 1, 0, 0], LISTED, [3, 0, 1, 3]],
+    );
+    // The first comparison of the occurrence at 0 is at text position 5, and spoils both 1 and 3:
+    // where the repeat at 2 differs, and where all of it agrees.
+    check_explanations(
+        &[C, A, C, A, C, A],
+        &[C, A, C, A, C, A, A, A, A],
+        &[LISTED, [3, 4, 0, 3], [2, 4, 0, 0], [3, 2, 2, 4]],
+    );
+    check_explanations(
+        &[C, A, C, A, C, A],
+        &[C, A, C, A, C, A, C, A, C],
+        &[LISTED, [3, 4, 0, 3], LISTED, [3, 2, 2, 3]],
+    );
+}
+
+/// 4, 6, 7, 10 in their order. A refused call explains nothing and leaves no table.
+#[test]
+fn refusals_of_explaining() {
+    let enough = TableLengths::needed(128);
+    let status = |position: u32, m: usize, n: usize, lengths| {
+        let explained = calls::explain(position, &vec![A; m], &vec![C; n], lengths);
+        let status = explained.answer.answer.status;
+        assert_eq!(explained.left.answer, explained.answer.answer);
+        assert_eq!(explained.left.order.is_empty(), status != 0);
+        assert_eq!(explained.answer.outcome == 0, status != 0);
+        status
+    };
+    assert_eq!(status(0, 0, 1, enough), 4);
+    assert_eq!(status(0, 128, 128, enough), 0);
+    assert_eq!(status(1, 128, 128, enough), 10);
+    assert_eq!(status(0, 129, 200, enough), 4);
+    assert_eq!(status(16_383, 1, 16_384, enough), 0);
+    assert_eq!(status(16_384, 1, 16_384, enough), 10);
+    assert_eq!(status(0, 1, 16_385, enough), 6);
+    assert_eq!(status(u32::MAX, 1, 16_384, enough), 10);
+    assert_eq!(status(u32::MAX - 3, 4, 16_384, enough), 10);
+    assert_eq!(status(0, 2, 1, enough), 10);
+    assert_eq!(status(0, 1, 0, enough), 10);
+    for m in [1, 5, 128] {
+        let exact = TableLengths::needed(m);
+        for short in exact.one_too_short(exact) {
+            assert_eq!(status(0, m, m, short), 7);
+            assert_eq!(status(1, m, m, short), 7);
+        }
+    }
+    let none = enough.changed(|_| 0);
+    assert_eq!(status(u32::MAX, 0, 16_385, none), 4);
+    assert_eq!(status(u32::MAX, 1, 16_385, none), 6);
+    assert_eq!(status(u32::MAX, 1, 16_384, none), 7);
+    assert_eq!(status(u32::MAX, 1, 16_384, enough), 10);
+}
+
+/// What a minder reads.
+#[test]
+fn sentences() {
+    let said = |position, explanation| {
+        let explained = Explained {
+            position,
+            explanation,
+        };
+        explained.to_string()
+    };
+    let passed_over = |kind| {
+        said(
+            5,
+            Explanation::PassedOver {
+                from: 3,
+                place: 4,
+                kind,
+            },
+        )
+    };
+    assert_eq!(
+        said(5, Explanation::Listed),
+        "Listed: the motif is found at chain place 5."
+    );
+    assert_eq!(
+        said(5, Explanation::Tried { place: 2 }),
+        "Tried: the motif was laid at chain place 5, and the look at motif place 2 differed: chain \
+         place 7 has another card."
+    );
+    assert_eq!(
+        passed_over(ShiftKind::LastByte),
+        "Passed over (last card): at chain place 3 the motif differed in its last card, and from \
+         there it was shifted past chain place 5. The earliest look that rules place 5 out was at \
+         chain place 9: its card is not that of motif place 4."
+    );
+    assert_eq!(
+        passed_over(ShiftKind::Order),
+        "Passed over (order): at chain place 3 the motif agreed in its last card and differed in \
+         another, and from there it was shifted past chain place 5. The earliest look that rules \
+         place 5 out was at chain place 9: its card is not that of motif place 4."
+    );
+    assert_eq!(
+        passed_over(ShiftKind::AfterOccurrence),
+        "Passed over (after a find): at chain place 3 the motif was found, and from there it was \
+         shifted past chain place 5. The earliest look that rules place 5 out was at chain place \
+         9: its card is not that of motif place 4."
+    );
+    assert_eq!(
+        passed_over(ShiftKind::LongRepeat),
+        "Passed over (long repeat): at chain place 3 the motif differed in the repeat after a \
+         find, and from there it was shifted past chain place 5. The earliest look that rules \
+         place 5 out was at chain place 9: its card is not that of motif place 4."
+    );
+    assert_eq!(Unexplained::Refused(10).to_string(), "Turned away by 10.");
+    assert_eq!(
+        Unexplained::NoExplanation.to_string(),
+        "The answer is no explanation."
+    );
+}
+
+/// An answer at its position, and answers that are no explanation.
+#[test]
+fn explained_answers() {
+    let told = |outcome, place, from, kind| ExplainAnswer {
+        answer: Answer::default(),
+        outcome,
+        place,
+        from,
+        kind,
+    };
+    let explained = |position, explanation| {
+        Ok(Explained {
+            position,
+            explanation,
+        })
+    };
+    assert_eq!(
+        Explained::told(7, told(1, 0, 0, 0)),
+        explained(7, Explanation::Listed)
+    );
+    assert_eq!(
+        Explained::told(7, told(2, 0, 0, 0)),
+        explained(7, Explanation::Tried { place: 0 })
+    );
+    let passed_over = Explanation::PassedOver {
+        from: 0,
+        place: 2,
+        kind: ShiftKind::LongRepeat,
+    };
+    assert_eq!(
+        Explained::told(u32::MAX, told(3, 2, 0, 4)),
+        explained(u32::MAX as usize, passed_over)
+    );
+    for answer in [
+        told(0, 0, 0, 0),
+        told(4, 0, 0, 0),
+        told(7, 1, 1, 1),
+        told(1, 1, 0, 0),
+        told(1, 0, 0, 3),
+        told(2, 1, 1, 0),
+        told(3, 1, 1, 0),
+        told(3, 1, 1, 5),
+    ] {
+        assert_eq!(Explained::told(0, answer), Err(Unexplained::NoExplanation));
+    }
+    let refused = calls::explain(5, &[A], &[A], TableLengths::needed(1)).answer;
+    assert_eq!(Explained::told(5, refused), Err(Unexplained::Refused(10)));
 }

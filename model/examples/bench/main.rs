@@ -19,6 +19,7 @@ mod seek_program;
 mod baseline;
 mod calls;
 mod comparisons;
+mod explain;
 mod prepare;
 mod price;
 mod program;
@@ -29,13 +30,14 @@ mod timing;
 mod turn;
 
 /// The parts, in the order in which they run.
-const PARTS: [(&str, fn()); 8] = [
+const PARTS: [(&str, fn()); 9] = [
     ("calls", calls::run),
     ("turn", turn::run),
     ("restore", restore::run),
     ("price", price::run),
     ("prepare", prepare::run),
     ("search", search::run),
+    ("explain", explain::run),
     ("program", program::run),
     ("comparisons", comparisons::run),
 ];

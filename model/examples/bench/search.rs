@@ -16,7 +16,7 @@ use crate::table_buffers::TableBuffers;
 use crate::timing::{differences, medians, Timed};
 
 /// The bytes of each text.
-const N: usize = 16_384;
+pub const N: usize = 16_384;
 
 /// Patterns and texts of each kind, over which a time is the mean.
 const PAIRS: usize = 16;
@@ -83,7 +83,7 @@ fn print(kind: Kind, m: usize, pairs: &[Pair]) {
 
 /// How a pattern and a text are chosen.
 #[derive(Clone, Copy)]
-enum Kind {
+pub enum Kind {
     /// Both at random, over so many different bytes.
     Random(usize),
     /// One byte throughout, in both.
@@ -120,7 +120,7 @@ const KINDS: [Kind; 17] = [
 ];
 
 impl Kind {
-    fn name(self) -> String {
+    pub fn name(self) -> String {
         match self {
             Kind::Random(bytes) => format!("random over {bytes}"),
             Kind::AllEqual => "all equal".to_string(),
@@ -140,7 +140,7 @@ impl Kind {
         }
     }
 
-    fn pair(self, random: &mut Random, m: usize) -> Pair {
+    pub fn pair(self, random: &mut Random, m: usize) -> Pair {
         let mut over = |bytes: usize, length: usize| -> Vec<u8> {
             (0..length).map(|_| random.below(bytes) as u8).collect()
         };

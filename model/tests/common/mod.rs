@@ -9,6 +9,7 @@ pub mod harness;
 
 pub mod bounds;
 pub mod examples;
+pub mod explanations;
 pub mod facts;
 pub mod files;
 pub mod lengths;
@@ -22,6 +23,8 @@ pub mod searching;
 
 #[macro_use]
 pub mod converter_suite;
+#[macro_use]
+pub mod explain_suite;
 #[macro_use]
 pub mod job_suite;
 #[macro_use]

@@ -201,6 +201,40 @@ pub fn largest() -> impl Iterator<Item = Pair> {
     })
 }
 
+/// A pattern of m bytes with a period of p, and the largest text: a run of the same with a break now
+/// and then.
+pub fn run_with_breaks(random: &mut Random, p: usize, m: usize) -> Pair {
+    let root = random_root(random, p);
+    let mut text = run(&root, MAX_TEXT);
+    for _ in 0..MAX_TEXT / 300 {
+        text[random.below(MAX_TEXT)] = random.pick(&[root[0], root[p - 1], FOREIGN]);
+    }
+    (run(&root, m), text)
+}
+
+/// Short ones of every period up to 6: an occurrence and three repeats of it, broken at each position in
+/// turn by another byte of the pattern and by a foreign one, and then gone on with as if there were no
+/// break or begun again, for another occurrence and a repeat.
+pub fn short_broken() -> impl Iterator<Item = Pair> {
+    let mut random = Random::seeded(60);
+    let mut pairs = Vec::new();
+    for p in 1..=6 {
+        for m in [3 * p - 1, 3 * p, 3 * p + 1, 4 * p + 1] {
+            let root = random_root(&mut random, p);
+            let pattern = run(&root, m);
+            for end in 0..m + 3 * p {
+                for byte in [another_of(&pattern, end), FOREIGN] {
+                    let mut gone_on = run(&root, end + 1 + m + p);
+                    gone_on[end] = byte;
+                    let begun_again = [&run(&root, end), &[byte][..], &run(&root, m + p)].concat();
+                    pairs.extend(with_each(&pattern, vec![gone_on, begun_again]));
+                }
+            }
+        }
+    }
+    pairs.into_iter()
+}
+
 /// The two bytes of the short patterns.
 const TWO: [u8; 2] = [0x06, 0x18];
 

@@ -1,13 +1,14 @@
 //! The library, written in Rattle, as an implementation of the calls that each suite asks for.
 
 #[path = "../../library/ruffarmoire.rs"]
-mod calls;
+pub mod calls;
 
 use ruffarmoire_model::answers::{
-    Answer, PriceAnswer, ReadAnswer, ReportAnswer, TurnAnswer, WriteAnswer,
+    Answer, ExplainAnswer, PriceAnswer, ReadAnswer, ReportAnswer, TurnAnswer, WriteAnswer,
 };
 
 use crate::common::converter_suite::ConverterCalls;
+use crate::common::explain_suite::ExplainCalls;
 use crate::common::job_suite::JobCalls;
 use crate::common::matcher_suite::MatcherCalls;
 use crate::common::prepare_suite::PrepareCalls;
@@ -118,5 +119,17 @@ impl PriceCalls for Library {
             delta3,
         } = tables;
         calls::price(hold, pattern, text, order, delta2, delta1, delta3, found)
+    }
+}
+
+impl ExplainCalls for Library {
+    fn explain(position: u32, pattern: &[u8], text: &[u8], tables: LentTables) -> ExplainAnswer {
+        let LentTables {
+            order,
+            delta2,
+            delta1,
+            delta3,
+        } = tables;
+        calls::explain(position, pattern, text, order, delta2, delta1, delta3)
     }
 }

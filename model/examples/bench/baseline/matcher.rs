@@ -128,8 +128,12 @@ pub(super) unsafe fn run(
 
 /// From which position on the pattern agrees with the text at b, where its last byte does and those
 /// before it are compared down to the position given.
+///
+/// # Safety
+///
+/// The position is below the pattern's length, and the pattern fits in the text at b.
 #[inline(always)]
-unsafe fn agreed_from(lowest: usize, pattern: &[u8], text: &[u8], b: usize) -> usize {
+pub(super) unsafe fn agreed_from(lowest: usize, pattern: &[u8], text: &[u8], b: usize) -> usize {
     let mut i = pattern.len() - 1;
     while i > lowest && *pattern.get_unchecked(i - 1) == *text.get_unchecked(b + i - 1) {
         i -= 1;

@@ -3,6 +3,7 @@
 //! model they use only the answers, the limits and the number of a hold.
 
 pub mod converter;
+pub mod explain;
 pub mod job;
 pub mod matcher;
 pub mod price;

@@ -1,0 +1,295 @@
+//! Explaining a position: the steps of a search up to the alignment there, or to the one whose
+//! shift goes past it.
+
+use ruffarmoire_model::answers::{Answer, ExplainAnswer, Refusal};
+use ruffarmoire_model::{MAX_PATTERN, MAX_TEXT};
+
+use super::matcher::agreed_from;
+use super::tables::{are_too_short, is_long_repeat, period, write_tables};
+
+/// The numbers of the outcomes.
+const LISTED: u32 = 1;
+const TRIED: u32 = 2;
+const PASSED_OVER: u32 = 3;
+
+/// The kinds of shift, with their numbers.
+#[derive(Clone, Copy)]
+enum Kind {
+    LastByte = 1,
+    Order = 2,
+    AfterOccurrence = 3,
+    LongRepeat = 4,
+}
+
+/// Explains a position of the text.
+pub fn explain(
+    position: u32,
+    pattern: &[u8],
+    text: &[u8],
+    order: &mut [i16],
+    delta2: &mut [u16],
+    delta1: &mut [u16],
+    delta3: &mut [u16],
+) -> ExplainAnswer {
+    let (m, n) = (pattern.len(), text.len());
+    if m == 0 || m > MAX_PATTERN {
+        return Refusal::PatternLength.into();
+    }
+    if n > MAX_TEXT {
+        return Refusal::TextLength.into();
+    }
+    if are_too_short(m, order, delta2, delta1, delta3) {
+        return Refusal::ShortBuffer.into();
+    }
+    let b = position as usize;
+    if b + m > n {
+        return Refusal::Position.into();
+    }
+    // SAFETY: all lengths were just checked.
+    unsafe { write_tables(pattern, order, delta2, delta1, delta3) };
+    let job = Job {
+        pattern,
+        text,
+        order,
+        delta2,
+        delta1,
+        delta3,
+        // SAFETY: the table is that of the pattern.
+        period: unsafe { period(m, delta2) },
+    };
+    // SAFETY: the pattern fits in the text at b, and the tables are the pattern's.
+    let next = unsafe { job.first_near(b) };
+    job.explained(b, next)
+}
+
+/// A pattern with its tables, and a text.
+struct Job<'a> {
+    pattern: &'a [u8],
+    text: &'a [u8],
+    order: &'a [i16],
+    delta2: &'a [u16],
+    delta1: &'a [u16],
+    delta3: &'a [u16],
+    period: usize,
+}
+
+/// The alignment that comes next.
+struct Next {
+    position: usize,
+    /// The last shift.
+    shift: usize,
+    is_repeat: bool,
+}
+
+impl Job<'_> {
+    fn first(&self) -> Next {
+        Next {
+            position: 0,
+            shift: self.pattern.len(),
+            is_repeat: false,
+        }
+    }
+
+    fn is_long_repeat(&self) -> bool {
+        is_long_repeat(self.pattern.len(), self.period)
+    }
+
+    /// The first alignment above b - m. Those before compare only what is below b.
+    ///
+    /// # Safety
+    ///
+    /// The pattern has 1 to 128 bytes and fits in the text at b, and the tables are the pattern's.
+    unsafe fn first_near(&self, b: usize) -> Next {
+        match b.checked_sub(self.pattern.len()) {
+            // Every alignment that `first_above` compares is at or below b - m, so it fits in the
+            // text.
+            Some(end) => self.first_above(end),
+            None => self.first(),
+        }
+    }
+
+    /// Runs the steps up to the first alignment above `end`.
+    ///
+    /// # Safety
+    ///
+    /// The pattern has 1 to 128 bytes, the tables are the pattern's, and an alignment at `end` fits
+    /// in the text.
+    unsafe fn first_above(&self, end: usize) -> Next {
+        let m = self.pattern.len();
+        let (mut a, mut s) = (0, m);
+        let is_repeat = loop {
+            (a, s) = self.after_ordinary(a, s, end);
+            if a > end {
+                break false;
+            }
+            let agreed;
+            (a, agreed) = self.after_occurrences(a, end);
+            if a > end {
+                break true;
+            }
+            // Where the first comparison differs, it is that of an ordinary alignment, with the
+            // same shift after it: the last shift is p.
+            if agreed < m {
+                s = usize::from(*self.delta3.get_unchecked(agreed - 1));
+                a += s;
+                if a > end {
+                    break false;
+                }
+            }
+        };
+        Next {
+            position: a,
+            shift: s,
+            is_repeat,
+        }
+    }
+
+    /// Runs the ordinary alignments from a on, after a shift of s: up to the first above `end`, or
+    /// to an occurrence that a repeat follows. Gives it, and the shift before the one or after the
+    /// other.
+    ///
+    /// # Safety
+    ///
+    /// As for `first_above`; a is at most `end`, and s is 1 to m.
+    unsafe fn after_ordinary(&self, mut a: usize, mut s: usize, end: usize) -> (usize, usize) {
+        let Job { pattern, text, .. } = *self;
+        let m = pattern.len();
+        let is_long_repeat = self.is_long_repeat();
+        let last = *pattern.get_unchecked(m - 1);
+        loop {
+            loop {
+                let seen = *text.get_unchecked(a + m - 1);
+                if seen == last {
+                    break;
+                }
+                s = usize::from(*self.delta1.get_unchecked(usize::from(seen) * m + s - 1));
+                a += s;
+                if a > end {
+                    return (a, s);
+                }
+            }
+            let mut i = 1;
+            while i < m {
+                let h = *self.order.get_unchecked(i) as usize;
+                if *pattern.get_unchecked(h) != *text.get_unchecked(a + h) {
+                    break;
+                }
+                i += 1;
+            }
+            s = usize::from(*self.delta2.get_unchecked(i));
+            if i == m && is_long_repeat {
+                return (a, s);
+            }
+            a += s;
+            if a > end {
+                return (a, s);
+            }
+        }
+    }
+
+    /// Runs the repeats after the occurrence at a: up to the first that is above `end` or differs.
+    /// Gives it, and from which position on it agrees: m where its last byte differs or is not
+    /// compared.
+    ///
+    /// # Safety
+    ///
+    /// As for `first_above`; and the pattern has at least three periods.
+    unsafe fn after_occurrences(&self, mut a: usize, end: usize) -> (usize, usize) {
+        let Job {
+            pattern,
+            text,
+            period,
+            ..
+        } = *self;
+        let m = pattern.len();
+        let last = *pattern.get_unchecked(m - 1);
+        loop {
+            a += period;
+            if a > end {
+                return (a, m);
+            }
+            if *text.get_unchecked(a + m - 1) != last {
+                return (a, m);
+            }
+            let agreed = agreed_from(m - period, pattern, text, a);
+            if agreed > m - period {
+                return (a, agreed);
+            }
+        }
+    }
+
+    /// Goes on with the steps up to the alignment at b, or to the one whose shift goes past it. The
+    /// next alignment is at most at b.
+    fn explained(&self, b: usize, mut next: Next) -> ExplainAnswer {
+        let mut spoilt = None;
+        loop {
+            let a = next.position;
+            let (differing, shift) = self.aligned(&next, |x| {
+                if spoilt.is_none() && x >= b && self.text[x] != self.pattern[x - b] {
+                    spoilt = Some(x - b);
+                }
+            });
+            if a == b {
+                return match differing {
+                    None => told(LISTED, 0, 0, 0),
+                    Some(place) => told(TRIED, place, 0, 0),
+                };
+            }
+            if a + shift > b {
+                let kind = match differing {
+                    None => Kind::AfterOccurrence,
+                    Some(_) if next.is_repeat => Kind::LongRepeat,
+                    Some(i) if i == self.pattern.len() - 1 => Kind::LastByte,
+                    Some(_) => Kind::Order,
+                };
+                let place = spoilt.expect("a comparison spoils a position that is passed over");
+                return told(PASSED_OVER, place, a, kind as u32);
+            }
+            next = Next {
+                position: a + shift,
+                shift,
+                is_repeat: differing.is_none() && self.is_long_repeat(),
+            };
+        }
+    }
+
+    /// Makes the comparisons of an alignment, with each text position handed on. Gives the position
+    /// that differs, if one does, and the shift.
+    fn aligned(&self, next: &Next, mut compared: impl FnMut(usize)) -> (Option<usize>, usize) {
+        let (m, a) = (self.pattern.len(), next.position);
+        let mut agrees = |i: usize| {
+            compared(a + i);
+            self.pattern[i] == self.text[a + i]
+        };
+        if !agrees(m - 1) {
+            let seen = usize::from(self.text[a + m - 1]);
+            let shift = self.delta1[seen * m + next.shift - 1];
+            return (Some(m - 1), usize::from(shift));
+        }
+        if next.is_repeat {
+            return match (m - self.period..m - 1).rev().find(|&i| !agrees(i)) {
+                None => (None, self.period),
+                Some(i) => (Some(i), usize::from(self.delta3[i])),
+            };
+        }
+        let others = &self.order[1..m];
+        match others.iter().position(|&h| !agrees(h as usize)) {
+            None => (None, self.period),
+            Some(index) => {
+                let shift = self.delta2[index + 1];
+                (Some(others[index] as usize), usize::from(shift))
+            }
+        }
+    }
+}
+
+/// An answer with these numbers.
+fn told(outcome: u32, place: usize, from: usize, kind: u32) -> ExplainAnswer {
+    ExplainAnswer {
+        answer: Answer::default(),
+        outcome,
+        place: place as u32,
+        from: from as u32,
+        kind,
+    }
+}
