@@ -9,7 +9,6 @@ use native.Mathlib.Omega.{arith}
 use lib.ListN.{length, getD}
 use Rattle.tables.specs.Sets.{byte}
 use Rattle.steps.proofs.Steps.{Agreed, agreed-none, agreed-more, agreed-stop, agreed-all}
-use Rattle.steps.proofs.Text.{shown-byte}
 use Rattle.steps.specs.Steps.{agreeing}
 use Rattle.steps.specs.Text.{shown}
 
@@ -24,19 +23,14 @@ module _ (w t : List ℕ) (b : ℕ) (row : List ℕ) where
 
   module _ {i : ℕ} (known : Along w t b row i) where
     -- the position at index i is compared
-    module _ (inside : i < length row) {at : ℕ} (entry : at ≡ getD row i 0) (in-text : b + at < length t) where
-      pub along-more : byte w at ≡ byte t (b + at) → Along w t b row (i + 1)
+    module _ (inside : i < length row) {at : ℕ} (entry : at ≡ getD row i 0) where
+      pub along-more : byte w at ≡ shown t (b + at) → Along w t b row (i + 1)
       along-more e =
           rw add-one
-          (record {
-            within = inside;
-            agreed = agreed-more (shown t) w b row i inside (known .agreed) (rw entry at (e ∙ sym (shown-byte t (b + at) in-text)));
-          })
+          (record { within = inside; agreed = agreed-more (shown t) w b row i inside (known .agreed) (rw entry at e) })
 
-      pub along-stop : byte w at ≢ byte t (b + at) → i ≡ agreeing (shown t) w b row
-      along-stop d =
-          let differs : byte w at ≢ shown t (b + at) = λ e. d (e ∙ shown-byte t (b + at) in-text) in
-          sym (agreed-stop (shown t) w b row i inside (known .agreed) (rw entry at differs))
+      pub along-stop : byte w at ≢ shown t (b + at) → i ≡ agreeing (shown t) w b row
+      along-stop d = sym (agreed-stop (shown t) w b row i inside (known .agreed) (rw entry at d))
 
     -- all are
     pub along-all : i ≡ length row → i ≡ agreeing (shown t) w b row

@@ -25,7 +25,7 @@ pub record Shift-tables-ready (w t delta2 delta1 delta3 : List ℕ) (p : ℕ) : 
   pub delta3-ready : Begins (stored-Δ3 w) delta3
   pub period-is : p ≡ period w
 
--- the pattern is laid inside the text, after a shift from 1 to m, and as a repeat only where it repeats, after a shift by the period
+-- the pattern is laid at a position of the text, after a shift from 1 to m, and as a repeat only where it repeats, after a shift by the period
 pub record Laid-inside (w t : List ℕ) (x : Laid) : Type 0 where
   pub inside : x .position + length w ≤ span w t
   pub positive : 1 ≤ x .shift

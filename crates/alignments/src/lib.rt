@@ -1,7 +1,8 @@
-// One alignment at a time: how many of its comparisons agree, and how the pattern is laid after it. The functions are public for the crates that walk
-// along the alignments and tell of one, which have the tables of a pattern that is taken and stay inside the text.
+// One alignment at a time: how many of its comparisons agree, and how the pattern is laid after it. The functions are public for the crates that go by
+// the alignments that wrap, walk along the alignments and tell of one: these have the tables of a pattern that is taken, and lay it at positions of the
+// text.
 ghost use mathlib.Core.Path.{_≡_};
-ghost use Prim.Native.Nat.{_<_};
+ghost use Prim.Native.Nat.{_+_, _≤_, _<_};
 ghost use lib.ListN.{length, getD};
 ghost use Rattle.tables.specs.Buffers.{Pattern-taken};
 ghost use Rattle.tables.specs.Tables.{stored-order, period};
@@ -41,10 +42,10 @@ pub fn row_entry(pattern: &[u8], order: &[i16], repeat: bool, i: usize) -> usize
     order[i] as usize
 }
 
-// How many comparisons of an alignment agree until one differs or all do. The first is that of the last position.
+// How many comparisons of an alignment that ends inside the text agree until one differs or all do. The first is that of the last position.
 pub fn agreeing(pattern: &[u8], text: &[u8], order: &[i16], p: usize, here: Laid) -> usize
     requires { ⌜ Row-ready (now pattern) (now text) (now order) p ⌝ }
-    requires { ⌜ Laid-inside (now pattern) (now text) here ⌝ }
+    requires { ⌜ here .position + length (now pattern) ≤ length (now text) ⌝ }
     ensures { λ r. ⌜ Compared-so (now (pattern .entry)) (now (text .entry)) (here .position) (here .repeat) r ⌝ }
 {
     let b = here.position;
@@ -57,6 +58,24 @@ pub fn agreeing(pattern: &[u8], text: &[u8], order: &[i16], p: usize, here: Laid
     while i < count {
         let at = row_entry(pattern, order, here.repeat, i);
         if pattern[at] != text[b + at] {
+            return i;
+        }
+        i += 1;
+    }
+    i
+}
+
+// The same of any alignment, also of one that wraps around the text's end.
+pub fn agreeing_around(pattern: &[u8], text: &[u8], order: &[i16], p: usize, here: Laid) -> usize
+    requires { ⌜ Row-ready (now pattern) (now text) (now order) p ⌝ }
+    requires { ⌜ Laid-inside (now pattern) (now text) here ⌝ }
+    ensures { λ r. ⌜ Compared-so (now (pattern .entry)) (now (text .entry)) (here .position) (here .repeat) r ⌝ }
+{
+    let count = row_length(pattern, p, here.repeat);
+    let mut i = 0;
+    while i < count {
+        let at = row_entry(pattern, order, here.repeat, i);
+        if pattern[at] != ring::byte_at(text, here.position + at) {
             return i;
         }
         i += 1;
@@ -87,7 +106,7 @@ fn shift_of(
         return repeats::repeat_shift(pattern, text, delta1, delta3, p, here.position, agreed);
     }
     if agreed == 0 {
-        return progress::first_shift(pattern, text, delta1, here.position, here.shift);
+        return progress::first_shift_around(pattern, text, delta1, here.position, here.shift);
     }
     delta2[agreed] as usize
 }

@@ -4,7 +4,8 @@ use mathlib.Core.Bool.{Bool, true, false, cond, and-eq-true-iff}
 use mathlib.Core.List.{List}
 use mathlib.Core.Logic.{⊎-elim}
 use mathlib.Core.Path.{_≡_, refl, sym, _∙_}
-use Prim.Native.Nat.{ℕ, _+_, _-_, _≤_, _<_}
+use Prim.Native.Nat.{ℕ, _+_, _≤_, _<_}
+use native.Mathlib.Nat.{mod-eq-of-lt}
 use native.Mathlib.Omega.{arith}
 use borrow.Author.Tests.{leb-true, le-leb, eqb-true, eqb-false, eq-eqb, ne-eqb}
 use lib.Dec.{leb, eqb}
@@ -16,12 +17,14 @@ use Rattle.tables.proofs.Cases.{true-or-false}
 use Rattle.tables.proofs.Least.{all-each, each-all}
 use Rattle.tables.specs.Sets.{byte}
 use Rattle.steps.proofs.Occurrences.{occurs-agrees}
-use Rattle.steps.proofs.Text.{shown-byte}
-use Rattle.steps.specs.Occurrences.{occurs, occurrences}
+use Rattle.steps.proofs.Text.{shown-at}
+use Rattle.steps.specs.Occurrences.{occurrences}
 use Rattle.steps.specs.Text.{shown, span}
+use Rattle.ring.proofs.Back.{back-on}
+use Rattle.ring.specs.Ring.{back, is-in}
 use Rattle.frames.proofs.Holds.{length-frames, holds-right, held-at}
-use Rattle.frames.specs.Frames.{hold, frames}
-use Rattle.frames.specs.Promises.{held-by, Holds-right}
+use Rattle.frames.specs.Frames.{hold, holds, frames}
+use Rattle.frames.specs.Promises.{Holds-right}
 use Rattle.conversions.specs.Promises.{Test-right, Converted-restored, Restored-converted, Restored-bytes}
 use Rattle.conversions.specs.Restored.{restored-byte, restored, converts-again, is-conversion}
 use Rattle.conversions.specs.Walk.{All-frames}
@@ -50,6 +53,10 @@ module _ (x : ℕ) (h : x < 256) where
   byte-again c true e = e refl
   byte-again c false e = rw (ne-eqb x hold (λ e. omega arith))
 
+-- position i is held by an occurrence
+abbrev pub is-held : (q : ℕ) (w t : List ℕ) (i : ℕ) → Bool
+is-held q w t i = is-in (holds (length t) q (occurrences w t)) i
+
 module _ (q : ℕ) (w gs : List ℕ) where
   pub length-restored : length (restored q w gs) ≡ length gs
   unfolding restored
@@ -77,7 +84,7 @@ module _ (q : ℕ) (w gs : List ℕ) where
     -- a move or a hold is converted to again just where it is a hold for an occurrence of what is put back
     module _ (inside : i < length gs) where
       abbrev held : Bool
-      held = held-by q (occurrences w (restored q w gs)) i
+      held = is-held q w (restored q w gs) i
 
       again-is : again ≡ cond held hold (restored-byte (byte w q) (getD gs i 0))
       unfolding Holds-right
@@ -94,11 +101,12 @@ module _ (q : ℕ) (w gs : List ℕ) where
           (true-or-false (converts-again q w gs i))
 
 -- where a frame is a hold, the text has w(q)
-byte-held : (q i : ℕ) (w t : List ℕ) → q < length w → i < length t → held-by q (occurrences w t) i ≡ true → byte w q ≡ byte t i
+byte-held : (q i : ℕ) (w t : List ℕ) → q < length w → i < length t → is-held q w t i ≡ true → byte w q ≡ byte t i
 byte-held q i w t h l e =
-    let (low, found) = and-eq-true-iff (leb q i) (occurs (shown t) (span w t) w (i - q)) .0 (rw (held-at q i w t) at e) in
-    let there : i - q + q ≡ i = omega (arith, leb-true q i low) in
-    occurs-agrees (shown t) (span w t) w (i - q) found q h ∙ rw there (shown-byte t i l)
+    let (n, b) : ℕ × ℕ = (length t, back (length t) i q) in
+    occurs-agrees (shown t) (span w t) w b (sym (held-at w t (omega arith) q i l) ∙ e) q h
+    ∙ shown-at t (b + q)
+    ∙ rw (back-on n (omega arith) i q, mod-eq-of-lt l)
 
 pub converted-restored : Converted-restored
 unfolding Converted-restored Holds-right
@@ -109,7 +117,7 @@ converted-restored q w t b h =
     let inside : i < length t = rw (length-restored, length-frames) at l in
     restored-entry q w (frames q w t) i
     ∙ rw (holds-right q i w t inside)
-    (byte-again (byte t i) (bytes-entry t b i) (byte w q) (held-by q (occurrences w t) i) (byte-held q i w t h inside)))
+    (byte-again (byte t i) (bytes-entry t b i) (byte w q) (is-held q w t i) (byte-held q i w t h inside)))
 
 -- each frame of a conversion is converted to again
 module _ (q : ℕ) (w gs : List ℕ) (e : is-conversion q w gs ≡ true) where
@@ -143,7 +151,7 @@ frames-pass q w t b h =
     each-all (length (frames q w t)) 0 (converts-again q w (frames q w t))
     (λ i l u.
     is-converts-again q w (frames q w t) i
-    (rw (holds-right q i w t (omega (arith, length-frames q w t))) (move-or-hold (byte t i) (bytes-entry t b i) (held-by q (occurrences w t) i)))
+    (rw (holds-right q i w t (omega (arith, length-frames q w t))) (move-or-hold (byte t i) (bytes-entry t b i) (is-held q w t i)))
     (rw (converted-restored q w t b h)))
 
 pub test-right : Test-right

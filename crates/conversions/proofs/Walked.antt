@@ -1,97 +1,74 @@
 -- Moves and holds read one by one as the bytes that they are put back to, with the longest prefix of the pattern that ends there: they are a
--- conversion just where frame i is a hold exactly if the whole pattern ends m - 1 - q positions after it. Frame by frame, by the test.
-use mathlib.Core.Bool.{true, false, _&&_, and-eq-true-iff}
+-- conversion just where frame (b + q) modulo n is a hold exactly if the whole pattern ends before b + m. Frame by frame, by the test.
+use mathlib.Core.Bool.{true, false}
 use mathlib.Core.List.{List, map}
 use mathlib.Core.Logic.{⊎-elim}
 use mathlib.Core.Path.{_≡_, sym, _∙_}
-use Prim.Native.Nat.{ℕ, suc, _+_, _-_, _≤_, _<_}
-use native.Mathlib.Nat.{eq-or-lt-of-le, le-of-suc-le-suc}
+use Prim.Native.Nat.{ℕ, suc, _+_, _-_, _%_, _≤_, _<_}
+use native.Mathlib.Nat.{eq-or-lt-of-le, le-of-suc-le-suc, zero-add, suc-add, mod-lt, mod-eq-of-lt}
 use native.Mathlib.Omega.{arith}
-use borrow.Author.Tests.{leb-true, leb-false, le-leb, lt-leb, ne-eqb, not-true, not-false}
-use lib.Dec.{leb, eqb}
+use borrow.Author.Tests.{leb-true, leb-false, lt-ltb, le-ltb, eq-eqb, ne-eqb}
+use lib.Dec.{ltb, eqb}
 use lib.ListN.{length, getD, length-map, List·getD-map}
-use Rattle.tables.proofs.Cases.{true-or-false, le-or-lt, clash}
+use Rattle.tables.proofs.Cases.{true-or-false, clash, eq-or-ne}
 use Rattle.tables.proofs.Least.{all-each, each-all, some-fails}
 use Rattle.tables.specs.Least.{all-from}
 use Rattle.tables.specs.Sets.{byte}
-use Rattle.steps.proofs.Occurrences.{occurs-inside}
-use Rattle.steps.proofs.Text.{shown-byte, span-length}
-use Rattle.steps.specs.Occurrences.{occurs, occurrences}
+use Rattle.steps.proofs.Text.{shown-at, span-reaches}
 use Rattle.steps.specs.Text.{shown, span}
+use Rattle.ring.proofs.Back.{back-inside, back-on, on-back}
+use Rattle.ring.specs.Ring.{back}
 use Rattle.frames.proofs.Holds.{held-at}
 use Rattle.frames.specs.Frames.{hold}
-use Rattle.frames.specs.Promises.{held-by}
-use Rattle.prefixes.proofs.Ends.{longest-facts}
-use Rattle.prefixes.proofs.Walk.{extended-right, occurrence-ends}
+use Rattle.prefixes.proofs.Walk.{extended-right, occurrence-ends, prefix-within}
 use Rattle.prefixes.specs.Prefixes.{longest-prefix, extended}
 use Rattle.prefixes.specs.Promises.{Extended-right, Occurrence-ends}
-use Rattle.conversions.proofs.Restored.{length-restored, converts-again-is, held-again, held-fails}
+use Rattle.conversions.proofs.Restored.{is-held, length-restored, converts-again-is, held-again, held-fails}
 use Rattle.conversions.specs.Restored.{restored-byte, restored, is-frame, converts-again, is-conversion}
-use Rattle.conversions.specs.Walk.{is-no-hold, All-frames}
+use Rattle.conversions.specs.Walk.{All-frames, frame-at, shows, holds-at, ends-from, Walked}
 
--- how far after its hold an occurrence ends
-abbrev pub after : (q m : ℕ) → ℕ
-after q m = m - 1 - q
+-- the position that an occurrence b would hold is held just where the whole pattern ends before b + m
+held-ends :
+    (q b : ℕ) (w t : List ℕ) → 1 ≤ length w → b < length t →
+    is-held q w t ((b + q) % length t) ≡ eqb (longest-prefix (shown t) w (b + length w)) (length w)
+unfolding Occurrence-ends
+held-ends q b w t some l =
+    let n = length t in
+    let some' : 1 ≤ n = omega arith in
+    held-at w t some q ((b + q) % n) (mod-lt (b + q) some')
+    ∙ rw (on-back n some' b q, mod-eq-of-lt l) (occurrence-ends (shown t) (span w t) w b (span-reaches w t some b l))
 
--- where an occurrence ends whose hold is at i
-abbrev ends-at : (q : ℕ) (w : List ℕ) (i : ℕ) → ℕ
-ends-at q w i = suc (i + after q (length w))
-
--- position i is held by an occurrence just where the whole pattern ends there
-module _ (q i : ℕ) (w t : List ℕ) (h : q < length w) where
-  held-inside :
-      ends-at q w i ≤ length t → held-by q (occurrences w t) i ≡ eqb (longest-prefix (shown t) w (ends-at q w i)) (length w)
-  unfolding Occurrence-ends
-  held-inside inside =
-      let m = length w in
-      let whole : ends-at q w i ≤ span w t = omega (arith, span-length w t) in
-      held-at q i w t
-      ∙ ⊎-elim
-      (λ l.
-      let there : i - q + m ≡ ends-at q w i = omega arith in
-      let found = occurrence-ends (shown t) (span w t) w (i - q) (rw there whole) in
-      rw (le-leb q i l) (rw there at found))
-      (λ l. rw (lt-leb q i l) (sym (ne-eqb _ m (λ e. omega (arith, longest-facts (shown t) w (ends-at q w i) .there .inside)))))
-      (le-or-lt q i)
-
-  held-outside : length t < ends-at q w i → held-by q (occurrences w t) i ≡ false
-  held-outside outside =
-      held-at q i w t
-      ∙ ⊎-elim
-      (λ e.
-      let (low, found) = and-eq-true-iff (leb q i) (occurs (shown t) (span w t) w (i - q)) .0 e in
-      absurd (omega (arith, leb-true q i low, occurs-inside (shown t) (span w t) w (i - q) found, span-length w t)))
-      (λ e. e)
-      (true-or-false (leb q i && occurs (shown t) (span w t) w (i - q)))
-
--- frames put back, one by one: c is the byte of the next one, and `next` the prefix extended by it
+-- frames put back, one by one: `next` is the prefix extended by the byte of the next one
 pub prefix-on :
-    (held : ℕ) (w gs : List ℕ) (x prefix c next : ℕ) → let f = shown (map (restored-byte held) gs) in
-    prefix ≡ longest-prefix f w x → x < length gs → c ≡ restored-byte held (getD gs x 0) → next ≡ extended w prefix c →
-    next ≡ longest-prefix f w (suc x)
+    (held : ℕ) (w gs : List ℕ) (x prefix next : ℕ) → let f = shown (map (restored-byte held) gs) in
+    prefix ≡ longest-prefix f w x → next ≡ extended w prefix (restored-byte held (frame-at gs x)) → next ≡ longest-prefix f w (suc x)
 unfolding Extended-right
-prefix-on held w gs x prefix c next here inside put grown =
+prefix-on held w gs x prefix next here grown =
     let t = map (restored-byte held) gs in
-    let there : shown t x ≡ c = shown-byte t x (rw length-map inside) ∙ List·getD-map (restored-byte held) gs x 0 ∙ sym put in
+    let there : shown t x ≡ restored-byte held (frame-at gs x) = shown-at t x ∙ rw length-map (List·getD-map (restored-byte held) gs _ 0) in
     grown ∙ sym (extended-right (shown t) w x ∙ rw (← here, there))
+
+-- a prefix is longer than the pattern's last position just where it is the whole pattern
+whole : (m prefix : ℕ) → 1 ≤ m → prefix ≤ m → ltb (m - 1) prefix ≡ eqb prefix m
+whole m prefix some few =
+    ⊎-elim
+    (λ e. lt-ltb (m - 1) prefix (omega arith) ∙ sym (eq-eqb prefix m e))
+    (λ d. le-ltb (m - 1) prefix (omega arith) ∙ sym (ne-eqb prefix m d))
+    (eq-or-ne prefix m)
 
 -- where the test passes each is a move or a hold
 pub each-frame : (gs : List ℕ) → all-from (length gs) 0 (is-frame gs) ≡ true → All-frames gs
 each-frame gs e = record { frame = λ i l. leb-true _ _ (all-each (length gs) 0 (is-frame gs) e i (omega arith) (omega arith)) }
 
+-- where each is one, so is the one at each position of the ring
+pub frame-around : (gs : List ℕ) → All-frames gs → 1 ≤ length gs → (x g : ℕ) → g ≡ frame-at gs x → g ≤ hold
+frame-around gs all some x g e = rw e (all .frame _ (mod-lt x some))
+
 module _ (q : ℕ) (w gs : List ℕ) where
-  -- the byte that is shown at a position
-  abbrev shows : (x : ℕ) → ℕ
-  shows = shown (restored q w gs)
-
-  -- each frame whose pattern would end by x is a hold just where it does, and the longest prefix that ends there has this length
-  pub record Walked (x prefix : ℕ) : Type 0 where
-    pub here : prefix ≡ longest-prefix shows w x
-    pub right : (i : ℕ) → ends-at q w i ≤ x → eqb (getD gs i 0) hold ≡ eqb (longest-prefix shows w (ends-at q w i)) (length w)
-
-  -- in the first frames no pattern ends
-  pub walked-first : {x prefix : ℕ} → prefix ≡ longest-prefix shows w x → x ≤ after q (length w) → Walked x prefix
-  walked-first here few = record { here = here; right = λ i l. absurd (omega arith) }
+  -- before position 0 none is walked over
+  pub walked-first : {prefix : ℕ} → prefix ≡ longest-prefix (shown (map (restored-byte (byte w q)) gs)) w (length w - 1) → Walked q w gs 0 prefix
+  unfolding restored
+  walked-first here = record { here = rw zero-add here; right = λ c l. absurd (omega arith) }
 
   -- one frame that fails the test is enough
   fails : (i : ℕ) → i < length gs → converts-again q w gs i ≡ false → is-conversion q w gs ≡ false
@@ -111,53 +88,50 @@ module _ (q : ℕ) (w gs : List ℕ) where
       (λ e. e)
       (true-or-false (converts-again q w gs i)))
 
-  -- one frame on: `next` is the longest prefix that ends after it
-  module _ (x prefix next : ℕ) (r : Walked x prefix) (inside : x < length gs) (next-is : next ≡ longest-prefix shows w (suc x)) where
-    -- frame i is a hold just where a pattern ends here
-    module _ (i : ℕ) (here : i + after q (length w) ≡ x) where
-      pub walked-on : eqb (getD gs i 0) hold ≡ eqb next (length w) → Walked (suc x) next
+  -- no frames at all are the conversion of an empty text
+  pub none-pass : length gs ≡ 0 → is-conversion q w gs ≡ true
+  unfolding is-conversion
+  none-pass none = each-all (length gs) 0 (converts-again q w gs) (λ i l u. absurd (omega arith))
+
+  module _ (some : 1 ≤ length w) where
+    -- so it is with what is put back
+    held-back : (b : ℕ) → b < length gs → is-held q w (restored q w gs) ((b + q) % length gs) ≡ ends-from q w gs b
+    held-back b l = rw (← length-restored q w gs) (held-ends q b w (restored q w gs) some (rw length-restored l))
+
+    -- one position on: `next` is the prefix extended by the byte of the frame there
+    module _
+        (b prefix next : ℕ) (r : Walked q w gs b prefix)
+        (grown : next ≡ extended w prefix (restored-byte (byte w q) (frame-at gs (b + (length w - 1))))) where
+      next-is : next ≡ longest-prefix (shows q w gs) w (suc (b + (length w - 1)))
+      unfolding restored
+      next-is = prefix-on (byte w q) w gs (b + (length w - 1)) prefix next (r .here) grown
+
+      next-ends : ltb (length w - 1) next ≡ ends-from q w gs b
+      next-ends =
+          let there : suc (b + (length w - 1)) ≡ b + length w = omega arith in
+          whole (length w) next some (prefix-within _ _ _ _ next-is) ∙ rw (← rw there at next-is)
+
+      pub walked-on : holds-at q w gs b ≡ ltb (length w - 1) next → Walked q w gs (suc b) next
       walked-on right = record {
-        here = next-is;
-        right = λ j l.
-            ⊎-elim
-            (λ e. let same : i ≡ j = omega arith in rw e (rw same at right ∙ rw next-is))
-            (r .right j)
-            (eq-or-lt-of-le (le-of-suc-le-suc l));
+        here = rw suc-add next-is;
+        right = λ c l. ⊎-elim (λ e. rw e (right ∙ next-ends)) (r .right c) (eq-or-lt-of-le (le-of-suc-le-suc l));
       }
 
       -- a hold where none ends fails the test, and so does a move where one ends
-      pub wrong-fails : q < length w → byte w q < hold → (eqb (getD gs i 0) hold ≡ eqb next (length w) → ⊥) → is-conversion q w gs ≡ false
-      wrong-fails h small wrong =
-          let ends : longest-prefix shows w (ends-at q w i) ≡ next = rw here (sym next-is) in
-          fails i (omega arith) (held-fails q w gs i (omega arith) small (λ same.
-          wrong (same ∙ held-inside q i w (restored q w gs) h (rw length-restored (omega arith)) ∙ rw ends)))
+      pub wrong-fails : b < length gs → byte w q < hold → (holds-at q w gs b ≡ ltb (length w - 1) next → ⊥) → is-conversion q w gs ≡ false
+      wrong-fails l small wrong =
+          let inside : (b + q) % length gs < length gs = mod-lt (b + q) (omega arith) in
+          fails _ inside (held-fails q w gs _ inside small (λ same. wrong (same ∙ held-back b l ∙ sym next-ends)))
 
-  -- past the last frame it is left to tell whether one from `start` on, whose pattern would end later, is a hold
-  module _
-      (h : q < length w) (small : byte w q < hold) (start : ℕ) (from : start ≡ length gs - after q (length w))
-      {x prefix : ℕ} (r : Walked x prefix) (past : length gs ≤ x) where
-    last-hold : (i : ℕ) → start ≤ i → i < length gs → is-no-hold gs i ≡ false → is-conversion q w gs ≡ false
-    last-hold i low l e =
-        fails i l (held-fails q w gs i l small (λ same.
-        clash _ (not-false _ e) (same ∙ held-outside q i w (restored q w gs) h (rw length-restored (omega arith)))))
-
-    none-last : All-frames gs → ((i : ℕ) → start ≤ i → i < length gs → is-no-hold gs i ≡ true) → is-conversion q w gs ≡ true
+    -- all positions are walked over, and each frame is the one of the position that is q back from it
+    pub walked-all : {b prefix : ℕ} → Walked q w gs b prefix → length gs ≤ b → All-frames gs → is-conversion q w gs ≡ true
     unfolding is-conversion
-    none-last frames moves =
-        let t = restored q w gs in
-        each-all (length gs) 0 (converts-again q w gs)
+    walked-all r past frames =
+        let n = length gs in
+        each-all n 0 (converts-again q w gs)
         (λ i l u.
-        let inside : i < length gs = omega arith in
-        held-again q w gs i inside (frames .frame i inside)
-        (⊎-elim
-        (λ whole. r .right i (omega arith) ∙ sym (held-inside q i w t h (rw length-restored whole)))
-        (λ late. not-true _ (moves i (omega arith) inside) ∙ sym (held-outside q i w t h (rw length-restored late)))
-        (le-or-lt (ends-at q w i) (length gs))))
-
-    pub walked-all : All-frames gs → is-conversion q w gs ≡ all-from (length gs - start) start (is-no-hold gs)
-    walked-all frames =
-        let left = length gs - start in
-        ⊎-elim
-        (λ e. none-last frames (λ i low l. all-each left start (is-no-hold gs) e i low (omega arith)) ∙ sym e)
-        (λ e. let (i, low, l, one) = some-fails left start (is-no-hold gs) e in last-hold i low (omega arith) one ∙ sym e)
-        (true-or-false (all-from left start (is-no-hold gs)))
+        let (inside, some') : (i < n) × (1 ≤ n) = (omega arith, omega arith) in
+        let c = back n i q in
+        let below : c < n = back-inside n some' i q in
+        let there : (c + q) % n ≡ i = back-on n some' i q ∙ mod-eq-of-lt inside in
+        held-again q w gs i inside (frames .frame i inside) (rw there at (r .right c (omega arith) ∙ sym (held-back c below))))

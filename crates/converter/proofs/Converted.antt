@@ -5,7 +5,6 @@ use mathlib.Core.Path.{_≡_, sym, ap}
 use Prim.Native.Nat.{ℕ}
 use native.Mathlib.Omega.{arith}
 use lib.ListN.{length, take}
-use lib.Seq.{getD-take}
 use Rattle.answers.proofs.Answered.{refused-only, refused-answer}
 use Rattle.answers.proofs.Fronts.{from-entry-length, in-front-take}
 use Rattle.answers.specs.Answers.{status-only, if-done, answered}
@@ -15,7 +14,7 @@ use Rattle.tables.proofs.Rooms.{tables-kept}
 use Rattle.tables.specs.Buffers.{Tables, lengths}
 use Rattle.steps.specs.Occurrences.{occurrences}
 use Rattle.matcher.specs.Search.{found-left, Search-outcome-of, Search-outcome}
-use Rattle.frames.proofs.Holds.{occurrence-inside, occurrences-few, frames-in-front}
+use Rattle.frames.proofs.Holds.{occurrences-few, frames-in-front}
 use Rattle.converter.proofs.Taken.{Conversion-taken, search-taken}
 use Rattle.converter.specs.Convert.{convert-done, frames-left, Convert-outcome-of}
 use Rattle.converter.specs.Within.{Frames-ready, Frames-written}
@@ -59,9 +58,8 @@ module _ {q : ℕ} {w t : List ℕ} {lent : Tables} {found frame : List ℕ} whe
             text = fit .limits .text;
             room = fit .frames-room;
             counted = omega (arith, fit .found-room);
-            inside = λ i l.
-                let at = occurrence-inside w t i (omega arith) in
-                rw (← getD-take (r .occurrences) found' i 0 l, part-found searched) (omega (arith, fit .limits));
+            few = omega arith;
+            hold-offset = omega (arith, fit .limits);
           }
 
       -- a call that is done: the holds are marked at those entries, in the moves

@@ -1,12 +1,10 @@
 -- Demand 3 of whole calls: every search that is taken is exact (`Every-search-exact`), and two that meet the same bytes are alike (`Paired`).
 -- A call that answers status 0 has status 0, and then its outcome says what it answers and leaves; the steps do the rest.
-use mathlib.Core.Bool.{Bool}
-use mathlib.Core.List.{List, [], _∷_, map}
-use mathlib.Core.Path.{_≡_, refl, sym, _∙_, ap}
-use Prim.Native.Nat.{ℕ, suc, _+_, _≤_, _<_}
+use mathlib.Core.List.{List}
+use mathlib.Core.Path.{_≡_, sym, _∙_, ap}
+use Prim.Native.Nat.{ℕ, _≤_}
 use native.Mathlib.Omega.{arith}
-use lib.Dec.{eqb}
-use lib.ListN.{length, getD, take}
+use lib.ListN.{length, take}
 use Rattle.answers.proofs.Answered.{done-only}
 use Rattle.answers.proofs.Bytes.{bytes-entry}
 use Rattle.answers.proofs.Fronts.{in-front-take}
@@ -25,30 +23,13 @@ use Rattle.matcher.proofs.Searched.{Search-fit, search-fit}
 use Rattle.matcher.specs.Search.{search-done, found-left}
 use Rattle.steps.specs.Steps.{comparisons}
 use Rattle.steps.specs.Text.{shown, span}
-use Rattle.frames.proofs.Ascending.{passing}
-use Rattle.frames.proofs.Holds.{length-frames, holds-of, holds-listed}
+use Rattle.ring.specs.Ring.{ascending}
+use Rattle.frames.proofs.Holds.{length-frames, holds-listed, holds-apart}
 use Rattle.converter.proofs.Taken.{conversion-taken}
 use Rattle.converter.specs.Convert.{frames-left}
-use Rattle.frames.specs.Frames.{hold, frames}
+use Rattle.frames.specs.Frames.{holds, frames}
 use Rattle.ones.specs.Ones.{ones-of}
-use Rattle.converter.specs.Paired.{Call, Converts, Call-taken, Search, by-search, by-convert, found-by, holds-by, holds-from, frames-held, Every-search-exact, Paired}
-
--- the positions of the holds are those that pass, for a test that tells which frames are holds
-holds-from-passing :
-    (i : ℕ) (fs : List ℕ) (test : ℕ → Bool) → ((k j : ℕ) → j ≡ i + k → k < length fs → test j ≡ eqb (getD fs k 0) hold) →
-    holds-from i fs ≡ passing (length fs) i test
-unfolding holds-from passing
-holds-from-passing i [] test h = refl
-holds-from-passing i (f ∷ later) test h =
-    rw (h 0 i (omega arith) (omega arith), holds-from-passing (suc i) later test (λ k j e u. h (suc k) j (omega arith) (omega arith)))
-
--- the frames of a text of bytes are holds just at b + q for each occurrence b
-pub frames-hold :
-    (q : ℕ) (w t : List ℕ) → q < length w → Bytes t → holds-from 0 (frames q w t) ≡ map (λ b. b + q) (occurrences w t)
-unfolding holds-of
-frames-hold q w t inside bytes =
-    holds-from-passing 0 (frames q w t) (λ i. eqb (getD (frames q w t) i 0) hold) (λ k j at u. let at' : j ≡ k = omega arith in rw at')
-    ∙ holds-listed q w t inside (bytes-entry t bytes)
+use Rattle.converter.specs.Paired.{Call, Converts, Call-taken, Search, by-search, by-convert, found-by, holds-by, frames-held, Every-search-exact, Paired}
 
 -- what a search that is taken gives
 record Worked (w t : List ℕ) (c : Call) : Type 0 where
@@ -101,10 +82,11 @@ module _ {w t : List ℕ} {c : Call} where
       rw (h .moves-and-holds-left, done-only _ _ (h .answer) e)
       (in-front-take (frames q w t) (c .lent .frames) (length t) (length-frames q w t))
 
-  frames-right : {q : ℕ} → Converts q w t c → Call-taken c → Bytes t → frames-held (length t) c ≡ map (λ b. b + q) (occurrences w t)
+  -- just its holds are holds among them
+  frames-right :
+      {q : ℕ} → Converts q w t c → Call-taken c → Bytes t → frames-held (length t) c ≡ ascending (length t) (holds (length t) q (occurrences w t))
   unfolding frames-held
-  frames-right {q} h e bytes =
-      rw (frames-by h e) (frames-hold q w t (conversion-taken (done-only _ _ (h .answer) e) .limits .hold-offset) bytes)
+  frames-right {q} h e bytes = rw (frames-by h e) (holds-listed q w t (bytes-entry t bytes))
 
 pub every-search-exact : Every-search-exact
 unfolding Every-search-exact holds-by
@@ -118,6 +100,8 @@ every-search-exact q w t c s e =
       bound-answered = h .bound-answered;
       few = few h;
       frames-exact = λ converts bytes. rw (found-right h) (frames-right converts e bytes);
+      holds-counted = λ converts bytes.
+          rw (frames-right converts e bytes, h .occurrences-counted) (holds-apart q w t (h .nonempty));
     }
 
 pub paired : Paired
@@ -130,8 +114,8 @@ paired q w t u c d s e s' e' l same =
     record {
       same-comparisons = compared;
       same-occurrences = found;
-      same-holds = ap (map (λ b. b + q)) found;
-      same-frames = λ h b h' b'. y .frames-exact h' b' ∙ rw found (sym (x .frames-exact h b));
+      same-holds = rw (l, found);
+      same-frames = λ h b h' b'. y .frames-exact h' b' ∙ rw (l, found) (sym (x .frames-exact h b));
       same-count = rw (x .comparisons-counted, y .comparisons-counted, compared);
       same-period = y .period-answered ∙ sym (x .period-answered);
       same-bound = rw (x .bound-answered, y .bound-answered, listed, span-same w t u l);

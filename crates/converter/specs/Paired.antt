@@ -1,10 +1,8 @@
 -- Demand 3 of whole calls (document 01, "The steps"): what every search that is taken answers and leaves, and what two of them share.
 -- A search is a call of `search` or of `convert`, whatever its contract allows. These are definitions.
-use mathlib.Core.Bool.{cond}
-use mathlib.Core.List.{List, [], _∷_, map}
+use mathlib.Core.List.{List}
 use mathlib.Core.Path.{_≡_}
-use Prim.Native.Nat.{ℕ, suc, _+_, _≤_}
-use lib.Dec.{eqb}
+use Prim.Native.Nat.{ℕ, _≤_}
 use lib.ListN.{length, take}
 use Rattle.answers.specs.Bytes.{Bytes}
 use Rattle.answers.specs.declared.Answer.{Answer}
@@ -17,7 +15,9 @@ use Rattle.matcher.specs.Search.{Search-outcome}
 use Rattle.steps.specs.Steps.{comparisons}
 use Rattle.steps.specs.Text.{shown}
 use Rattle.converter.specs.Convert.{Convert-outcome}
-use Rattle.frames.specs.Frames.{hold}
+use Rattle.frames.specs.Frames.{holds}
+use Rattle.frames.specs.Promises.{holds-of}
+use Rattle.ring.specs.Ring.{ascending}
 
 -- the caller's buffers (lent buffers); `search` is lent no frames, and says nothing of these
 pub record Buffers : Type 0 where
@@ -58,21 +58,17 @@ pub data Search (q : ℕ) (w t : List ℕ) (c : Call) : Type 0 where
 unfoldable pub found-by : Call → List ℕ
 found-by c = take (c .answer .occurrences) (c .left .found)
 
--- its holds: the positions b + q, in the order of its occurrences b
-unfoldable pub holds-by : (q : ℕ) → Call → List ℕ
-holds-by q c = map (λ b. b + q) (found-by c)
+-- its holds in a ring of n: the positions (b + q) modulo n, in the order of its occurrences b
+unfoldable pub holds-by : (n q : ℕ) → Call → List ℕ
+holds-by n q c = holds n q (found-by c)
 
--- the positions, counted from i, where frames are holds
-unfoldable pub holds-from : (i : ℕ) → (frames : List ℕ) → List ℕ
-holds-from i [] = []
-holds-from i (f ∷ later) = cond (eqb f hold) (i ∷ holds-from (suc i) later) (holds-from (suc i) later)
-
--- the positions where the n frames of a conversion are holds
+-- the positions where the n frames of a conversion are holds, ascending
 unfoldable pub frames-held : (n : ℕ) → Call → List ℕ
-frames-held n c = holds-from 0 (take n (c .left .frames))
+frames-held n c = holds-of (take n (c .left .frames))
 
 -- what a search answers and leaves: the occurrences by meaning, and their number h; the number of comparisons (looks) that the steps make; the
--- pattern's period p; the bound, which the count answered keeps; and after a conversion just its holds are holds among its n frames
+-- pattern's period p; the bound, which the count answered keeps; and after a conversion just its holds are holds among its n frames, one for each
+-- occurrence
 pub record Exact (q : ℕ) (w t : List ℕ) (c : Call) : Type 0 where
   pub occurrences-found : found-by c ≡ occurrences w t
   pub occurrences-counted : c .answer .occurrences ≡ length (occurrences w t)
@@ -80,7 +76,8 @@ pub record Exact (q : ℕ) (w t : List ℕ) (c : Call) : Type 0 where
   pub period-answered : c .answer .period ≡ period w
   pub bound-answered : c .answer .bound ≡ search-bound w t
   pub few : c .answer .comparisons ≤ c .answer .bound
-  pub frames-exact : Converts q w t c → Bytes t → frames-held (length t) c ≡ holds-by q c
+  pub frames-exact : Converts q w t c → Bytes t → frames-held (length t) c ≡ ascending (length t) (holds-by (length t) q c)
+  pub holds-counted : Converts q w t c → Bytes t → length (frames-held (length t) c) ≡ c .answer .occurrences
 
 -- demand 3: this is so of every search that is taken
 unfoldable pub Every-search-exact : Type 0
@@ -91,13 +88,13 @@ Every-search-exact = (q : ℕ) (w t : List ℕ) (c : Call) → Search q w t c �
 pub record Shared (q : ℕ) (w t u : List ℕ) (c d : Call) : Type 0 where
   pub same-comparisons : comparisons w u ≡ comparisons w t
   pub same-occurrences : found-by d ≡ found-by c
-  pub same-holds : holds-by q d ≡ holds-by q c
+  pub same-holds : holds-by (length u) q d ≡ holds-by (length t) q c
   pub same-frames : Converts q w t c → Bytes t → Converts q w u d → Bytes u → frames-held (length u) d ≡ frames-held (length t) c
   pub same-count : d .answer .comparisons ≡ c .answer .comparisons
   pub same-period : d .answer .period ≡ c .answer .period
   pub same-bound : d .answer .bound ≡ c .answer .bound
 
--- demand 3: so do any two searches, both taken, for one pattern and one hold offset, in texts of equal length that have the same byte
+-- demand 3: so do any two searches, both taken, for one pattern and one hold offset, in texts (rings) of equal length that show the same byte
 -- at every position where the first search compares
 unfoldable pub Paired : Type 0
 Paired =

@@ -22,7 +22,7 @@ pub fn write_frames(
 {
     let h = searched.occurrences as usize;
     frames::write_moves(text, frames);
-    frames::mark_holds(HOLD, &found[..h], hold_offset, frames);
+    frames::mark_holds(HOLD, &found[..h], hold_offset, text.len(), frames);
     answers::converted(searched, ones::ones_of(text))
 }
 

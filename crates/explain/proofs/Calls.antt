@@ -56,7 +56,7 @@ prepare-taken b w t lent e =
     let m = length w in
     let tables = table-refusal m (lengths lent) in
     let (pattern, later) =
-    done-none (pattern-refusal m ∷ text-refusal (length t) ∷ tables ∷ position-refusal m (length t) b ∷ []) (omega arith) e in
+    done-none (pattern-refusal m ∷ text-refusal (length t) ∷ tables ∷ position-refusal (length t) b ∷ []) (omega arith) e in
     none-done (pattern-refusal m ∷ tables ∷ []) (pattern, (later .1 .0, tt))
 
 pub as-prepared : As-prepared

@@ -5,18 +5,18 @@ use mathlib.Core.List.{List, [], _∷_}
 use mathlib.Core.Path.{_≡_, refl, sym, _∙_, ap}
 use Prim.Native.Nat.{ℕ, _+_, _≤_, _<_}
 use native.Mathlib.Omega.{arith}
-use borrow.Author.Tests.{ltb-false, lt-ltb, le-ltb}
+use borrow.Author.Tests.{ltb-false, leb-false, le-leb, lt-leb}
 use lib.ListN.{length}
 use Rattle.answers.proofs.Answered.{refused-only}
 use Rattle.answers.proofs.Fronts.{in-front-take}
-use Rattle.answers.proofs.Refusals.{done-none, no-hold, first-refused, first-passed, pattern-within}
+use Rattle.answers.proofs.Refusals.{done-none, no-hold, first-refused, first-passed}
 use Rattle.answers.specs.Answers.{if-done}
 use Rattle.answers.specs.Refusals.{Refusal, longest-text, refuse, first-of, pattern-refusal, text-refusal}
 use Rattle.tables.proofs.Rooms.{tables-fit, tables-kept, tables-done}
 use Rattle.tables.specs.Buffers.{Tables, lengths, Tables-fit, table-refusal, measured-status, Tables-written}
 use Rattle.tables.specs.declared.TableLengths.{TableLengths}
 use Rattle.tables.specs.Tables.{period, stored-order, stored-Δ2, stored-Δ1, stored-Δ3}
-use Rattle.steps.proofs.Text.{span-length}
+use Rattle.steps.proofs.Text.{span-reaches}
 use Rattle.steps.specs.Text.{span}
 use Rattle.progress.specs.Progress.{Taken}
 use Rattle.explain_answers.specs.Answer.{explained, refused}
@@ -36,23 +36,19 @@ module _ (m n b : ℕ) (l : TableLengths) {s : ℕ} (measured : s ≡ measured-s
 
   pub status-refused : (s ≡ 0 → ⊥) → s ≡ explain-status m n b l
   unfolding explain-status
-  status-refused h = first-refused first (position-refusal m n b ∷ []) tested h
+  status-refused h = first-refused first (position-refusal n b ∷ []) tested h
 
-  status-past : s ≡ 0 → explain-status m n b l ≡ first-of (position-refusal m n b ∷ [])
+  status-past : s ≡ 0 → explain-status m n b l ≡ first-of (position-refusal n b ∷ [])
   unfolding explain-status
-  status-past e = first-passed first (position-refusal m n b ∷ []) (omega arith) tested e
+  status-past e = first-passed first (position-refusal n b ∷ []) (omega arith) tested e
 
-  pub status-ten : s ≡ 0 → n < b + m → 10 ≡ explain-status m n b l
+  pub status-ten : s ≡ 0 → n ≤ b → 10 ≡ explain-status m n b l
   unfolding first-of
-  status-ten e past = sym (status-past e ∙ rw (lt-ltb n (b + m) past))
+  status-ten e past = sym (status-past e ∙ rw (le-leb n b past))
 
-  pub status-done : s ≡ 0 → b + m ≤ n → 0 ≡ explain-status m n b l
+  pub status-done : s ≡ 0 → b < n → 0 ≡ explain-status m n b l
   unfolding first-of
-  status-done e inside = sym (status-past e ∙ rw (le-ltb n (b + m) inside))
-
-  -- the pattern is then not too long
-  pub pattern-few : s ≡ 0 → m ≤ 128
-  pattern-few e = pattern-within m (done-none first (omega arith) (sym tested ∙ e) .0) .1
+  status-done e inside = sym (status-past e ∙ rw (lt-leb n b inside))
 
 -- a call is taken
 pub record Explain-fit (w t : List ℕ) (b : ℕ) (lent : Tables) : Type 0 where
@@ -64,12 +60,13 @@ pub explain-fit : {w t : List ℕ} {b : ℕ} {lent : Tables} → explain-status-
 unfolding explain-status
 explain-fit {w} {t} {b} {lent} status =
     let tables = table-refusal (length w) (lengths lent) in
-    let position = position-refusal (length w) (length t) b in
+    let position = position-refusal (length t) b in
     let (pattern, later) = done-none (pattern-refusal (length w) ∷ text-refusal (length t) ∷ tables ∷ position ∷ []) (omega arith) status in
+    let fit = tables-fit pattern (later .1 .0) in
     record {
-      tables = tables-fit pattern (later .1 .0);
+      tables = fit;
       text = ltb-false _ _ (later .0);
-      inside = omega (arith, ltb-false (length t) (b + length w) (later .1 .1 .0), span-length w t);
+      inside = span-reaches w t (fit .taken .some) b (leb-false (length t) b (later .1 .1 .0));
     }
 
 module _ {w t : List ℕ} {b : ℕ} {lent : Tables} where

@@ -1,8 +1,8 @@
 -- What explaining a position answers and leaves in its buffers (document 02, "Why this scallop has no hold"). These are definitions.
 use mathlib.Core.List.{List, [], _∷_}
 use mathlib.Core.Path.{_≡_}
-use Prim.Native.Nat.{ℕ, _+_}
-use lib.Dec.{ltb}
+use Prim.Native.Nat.{ℕ}
+use lib.Dec.{leb}
 use lib.ListN.{length}
 use Rattle.answers.specs.Answers.{if-done}
 use Rattle.answers.specs.Refusals.{Refusal, refuse, first-of, pattern-refusal, text-refusal}
@@ -12,13 +12,13 @@ use Rattle.explain_answers.specs.Answer.{explained, refused}
 use Rattle.explanations.specs.Explanation.{explanation-in}
 use Rattle.explain_answers.specs.declared.ExplainAnswer.{ExplainAnswer}
 
--- 10: b + m above n
-abbrev pub position-refusal : (m n b : ℕ) → Refusal
-position-refusal m n b = refuse 10 (ltb n (b + m))
+-- 10: b of n or more
+abbrev pub position-refusal : (n b : ℕ) → Refusal
+position-refusal n b = refuse 10 (leb n b)
 
 -- the status of explaining: 4, 6, 7, 10
 unfoldable pub explain-status : (m n b : ℕ) → TableLengths → ℕ
-explain-status m n b l = first-of (pattern-refusal m ∷ text-refusal n ∷ table-refusal m l ∷ position-refusal m n b ∷ [])
+explain-status m n b l = first-of (pattern-refusal m ∷ text-refusal n ∷ table-refusal m l ∷ position-refusal n b ∷ [])
 
 -- what `explain` answers
 unfoldable pub explain-answer : (status b : ℕ) → (w t : List ℕ) → ExplainAnswer

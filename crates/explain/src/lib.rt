@@ -13,7 +13,7 @@ fn status_of(m: usize, n: usize, position: u32, lengths: TableLengths) -> u32
     if status != 0 {
         return status;
     }
-    if n < position as usize + m {
+    if n <= position as usize {
         return 10;
     }
     0

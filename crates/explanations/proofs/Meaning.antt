@@ -1,4 +1,4 @@
--- Every position inside the text has just one true explanation, the one defined (`One-explanation`), over any text.
+-- Every position from which the pattern is shown whole has just one true explanation, the one defined (`One-explanation`), over any text.
 -- The first alignment that reaches a position tells: those before it are passed over, and it lists, tries or passes the position.
 use mathlib.Core.Bool.{Bool, true, false, true≢false}
 use mathlib.Core.List.{List, [], _∷_, _++_}

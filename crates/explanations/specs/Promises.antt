@@ -70,7 +70,7 @@ True-of f N w b Listed = occurs f N w b ≡ true
 True-of f N w b (Tried i) = Tried-at f N w b i
 True-of f N w b (PassedOver from j kind) = Passed-at f N w b from j kind
 
--- every position inside the text has an explanation that is true of it, the one defined, and no other is
+-- every position from which the pattern is shown whole has an explanation that is true of it, the one defined, and no other is
 unfoldable pub One-explanation : Type 0
 One-explanation =
     (f : ℕ → ℕ) (N : ℕ) (w : List ℕ) → 1 ≤ length w → (b : ℕ) → b + length w ≤ N →

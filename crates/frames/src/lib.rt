@@ -1,9 +1,10 @@
 // Frames: a move for each byte of a text, and the holds.
 ghost use mathlib.Core.Path.{_≡_};
-ghost use Prim.Native.Nat.{ℕ, _+_, _<_, _≤_};
-ghost use lib.ListN.{length, getD};
+ghost use Prim.Native.Nat.{_≤_};
+ghost use lib.ListN.{length};
 ghost use Rattle.answers.specs.Buffers.{in-front};
-ghost use Rattle.frames.specs.Frames.{with-holds};
+ghost use Rattle.answers.specs.Refusals.{longest-pattern};
+ghost use Rattle.frames.specs.Frames.{holds, with-holds};
 
 // Copies each byte of a text to a move. It is public for the crate that converts, which has measured the buffer.
 pub fn write_moves(text: &[u8], frames: &mut [u16])
@@ -15,13 +16,15 @@ pub fn write_moves(text: &[u8], frames: &mut [u16])
     }
 }
 
-// Sets frame b + q to `hold` for every entry b, q being the hold offset (hold place). It is public for the crate that converts, whose
-// entries are occurrences.
-pub fn mark_holds(hold: u16, found: &[u16], hold_offset: usize, frames: &mut [u16])
-    requires { ⌜ ((i : ℕ) → i < length (now found) → getD (now found) i 0 + «hold_offset» < length (now frames)) ⌝ }
-    ensures { λ r. ⌜ now (frames .exit) ≡ with-holds hold «hold_offset» (now (found .entry)) (now (frames .entry)) ⌝ }
+// Sets frame (b + q) modulo n to `hold` for every entry b, q being the hold offset (hold place) and n the number of bytes (cards) in the ring. It is
+// public for the crate that converts, whose entries are occurrences.
+pub fn mark_holds(hold: u16, found: &[u16], hold_offset: usize, n: usize, frames: &mut [u16])
+    requires { ⌜ length (now found) ≤ n ⌝ }
+    requires { ⌜ n ≤ length (now frames) ⌝ }
+    requires { ⌜ «hold_offset» ≤ longest-pattern ⌝ }
+    ensures { λ r. ⌜ now (frames .exit) ≡ with-holds hold (holds n «hold_offset» (now (found .entry))) (now (frames .entry)) ⌝ }
 {
     for i in 0..found.len() {
-        frames[found[i] as usize + hold_offset] = hold;
+        frames[ring::wrapped(found[i] as usize + hold_offset, n)] = hold;
     }
 }

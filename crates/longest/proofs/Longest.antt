@@ -24,7 +24,7 @@ use Rattle.tables.specs.Sets.{byte}
 use Rattle.tables.specs.Tables.{period, order, h-at, values-from, Δ1, Δ2, Δ3}
 use Rattle.steps.proofs.Occurrences.{occurs-agrees, agrees-occurs}
 use Rattle.steps.proofs.Steps.{Ends, agreeing-ends}
-use Rattle.steps.proofs.Text.{shown-byte, span-length}
+use Rattle.steps.proofs.Text.{shown-byte, span-covers}
 use Rattle.steps.specs.Occurrences.{occurs}
 use Rattle.steps.specs.Steps.{agreeing}
 use Rattle.steps.specs.Text.{shown, span}
@@ -73,9 +73,9 @@ module _ (w : List ℕ) (k : ℕ) (base : ℕ → ℕ) where
   unfolding laid
   shown-pattern x l u = shown-laid x u ∙ rw (le-ltb x k l)
 
-  occurs-at : occurs (shown text) (span w text) w k ≡ true
-  occurs-at =
-      agrees-occurs (shown text) (span w text) w k (omega (arith, span-length w text, text-length)) λ g l.
+  occurs-at : 1 ≤ length w → occurs (shown text) (span w text) w k ≡ true
+  occurs-at some =
+      agrees-occurs (shown text) (span w text) w k (omega (arith, span-covers w text some, text-length)) λ g l.
       let back : k + g - k ≡ g = omega arith in
       sym (rw back at (shown-pattern (k + g) (omega arith) (omega arith)))
 
@@ -98,8 +98,8 @@ module _ (w : List ℕ) (k : ℕ) (base : ℕ → ℕ) where
       (λ u. front (sym (shown-base g u) ∙ e))
       (le-or-lt k g)
 
-  reached : (Facts : (f : ℕ → ℕ) → Type 0) → Bytes w → ((x : ℕ) → base x < 256) → Facts (shown text) → Reached w Facts k
-  reached Facts bytes small facts = (text, text-length, text-bytes bytes small, facts, occurs-at)
+  reached : (Facts : (f : ℕ → ℕ) → Type 0) → 1 ≤ length w → Bytes w → ((x : ℕ) → base x < 256) → Facts (shown text) → Reached w Facts k
+  reached Facts some bytes small facts = (text, text-length, text-bytes bytes small, facts, occurs-at some)
 
 module _ (w : List ℕ) (bytes : Bytes w) where
   -- the pattern's bytes with c at position d
@@ -159,7 +159,7 @@ module _ (w : List ℕ) (bytes : Bytes w) where
             none-by-shown w f N j g (omega arith) (rw at at (facts .seen)) n)
             (r .least j a b);
         reached =
-            reached w k base (First-facts w c s) bytes (with-small (m - 1) c small)
+            reached w k base (First-facts w c s) (omega arith) bytes (with-small (m - 1) c small)
             (record {
               seen = shows w k base (omega arith) (with-there (m - 1) c) (r .outside-seen (m - 1) (omega arith));
               last = λ q.
@@ -178,7 +178,7 @@ module _ (w : List ℕ) (bytes : Bytes w) where
     later-reached x d u there others =
         let k = Δ2 w (suc x) in
         let r = Δ2-facts w some x u in
-        reached w k (altered d) (Later-facts w (suc x)) bytes (altered-small d)
+        reached w k (altered d) (Later-facts w (suc x)) (omega arith) bytes (altered-small d)
         (record {
           agreed = λ j a b.
               shows w k (altered d) (below (j - 1) (omega arith)) (with-elsewhere d _ (h-at w j) (others (j - 1) (omega arith)))
@@ -225,7 +225,7 @@ module _ (w : List ℕ) (bytes : Bytes w) where
             none-by-shown w f N j g v (⊎-elim (λ q. facts .above g q v) (λ q. facts .below g (omega arith)) known) n)
             (r .least j a b);
         reached =
-            reached w k base (Repeat-facts w i) bytes (altered-small i)
+            reached w k base (Repeat-facts w i) (omega arith) bytes (altered-small i)
             (record {
               differing = lacks w k base u (altered-there i) (r .outside-differing);
               above = λ j q v. agrees j (v, inl q);

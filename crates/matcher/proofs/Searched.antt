@@ -2,7 +2,7 @@
 -- A search is taken where none of its conditions holds; the tables stand in front of their buffers once they are written.
 use mathlib.Core.List.{List, [], _∷_}
 use mathlib.Core.Path.{_≡_, refl, sym}
-use Prim.Native.Nat.{ℕ, _≤_}
+use Prim.Native.Nat.{ℕ, _+_, _≤_, _<_}
 use native.Mathlib.Omega.{arith}
 use borrow.Author.Tests.{ltb-false}
 use lib.Dec.{ltb}
@@ -18,9 +18,11 @@ use Rattle.tables.specs.Buffers.{Tables, lengths, Tables-fit, table-refusal, me
 use Rattle.tables.specs.declared.TableLengths.{TableLengths}
 use Rattle.tables.specs.Tables.{period, stored-order, stored-Δ2, stored-Δ1, stored-Δ3}
 use Rattle.steps.proofs.Occurrences.{occurrences-few}
-use Rattle.steps.proofs.Text.{span-length}
+use Rattle.steps.proofs.Text.{span-covers, span-few}
 use Rattle.steps.specs.Bound.{bound}
-use Rattle.run.specs.Run.{Run-ready, Run-outcome}
+use Rattle.steps.specs.Text.{span}
+use Rattle.progress.specs.Ready.{Run-ready}
+use Rattle.run.specs.Run.{Run-outcome}
 use Rattle.run.specs.declared.Counts.{Counts}
 use Rattle.matcher.specs.Search.{search-status, search-status-of, search-done, found-left, Search-outcome-of}
 
@@ -57,9 +59,10 @@ module _ {w t : List ℕ} {lent : Tables} {found : List ℕ} where
   -- the bound can be worked out
   pub bound-ready :
       {found' : List ℕ} {counts : Counts} {p : ℕ} → Search-fit w t lent found → p ≡ period w → Run-outcome w t found found' counts →
-      (length w ≤ 128) × ((length t ≤ 65535) × ((counts .occurrences ≤ length t) × (p ≤ length w)))
+      (length w ≤ 128) × ((span w t ≤ 65535) × ((counts .occurrences ≤ span w t) × (p ≤ length w)))
   bound-ready fit period-is ran =
       let some = fit .tables .taken .some in
+      let (far, near) : (length t ≤ span w t) × (span w t < length t + length w) = (span-covers w t some, span-few w t some) in
       omega (arith, fit, period-is, ran .occurrences-counted, occurrences-few w t some, period-facts w some .within)
 
   module _ {left : Tables} (written : Tables-written w lent left) where
@@ -79,13 +82,13 @@ module _ {w t : List ℕ} {lent : Tables} {found : List ℕ} where
 
     -- a call that is done
     pub done :
-        {found' : List ℕ} {counts : Counts} {p most : ℕ} → p ≡ period w → Run-outcome w t found found' counts →
-        most ≡ bound (length w) (length t) (counts .occurrences) p →
+        {found' : List ℕ} {counts : Counts} {p far most : ℕ} → p ≡ period w → Run-outcome w t found found' counts →
+        far ≡ span w t → most ≡ bound (length w) far (counts .occurrences) p →
         Search-outcome-of 0 w t lent left found found' (searched (counts .occurrences) (counts .comparisons) p most)
     unfolding if-done answered found-left
-    done period-is ran bound-is =
+    done period-is ran far-is bound-is =
         record {
-          answer = rw (bound-is, period-is, ran .occurrences-counted, ran .comparisons-counted, span-length);
+          answer = rw (bound-is, far-is, period-is, ran .occurrences-counted, ran .comparisons-counted);
           tables = tables-done written;
           occurrences-left = ran .occurrences-left;
         }

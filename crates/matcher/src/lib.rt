@@ -24,7 +24,8 @@ pub fn search_within(
     let period = prepare::write_tables(pattern, order, delta2, delta1, delta3);
     let counts = run::run_steps(pattern, text, order, delta2, delta1, delta3, found);
     let h = counts.occurrences;
-    let bound = bounds::comparison_bound(pattern.len() as u32, text.len() as u32, h, period);
+    let span = ring::span(pattern, text);
+    let bound = bounds::comparison_bound(pattern.len() as u32, span as u32, h, period);
     answers::searched(h, counts.comparisons, period, bound)
 }
 

@@ -9,50 +9,37 @@ use lib.ListN.{length, getD}
 use Rattle.tables.proofs.RepeatRow.{repeats-holds, repeat-shifts-entry}
 use Rattle.tables.proofs.RepeatShift.{Δ3-defined-at, stored-Δ3-length, stored-Δ3-defined}
 use Rattle.tables.proofs.Stored.{stored-Δ2-length, stored-Δ1-length}
-use Rattle.tables.specs.Sets.{byte}
 use Rattle.tables.specs.Tables.{period, Δ1, stored-Δ2, stored-Δ1, repeats, stored-Δ3}
 use Rattle.steps.proofs.Rows.{row-length}
 use Rattle.steps.proofs.Steps.{agreeing-at-most, step-shift-later}
 use Rattle.progress.proofs.Stored.{begins-room, begins-entry, stored-Δ1-inside, stored-Δ1-entry}
-use Rattle.steps.proofs.Text.{shown-byte, span-length}
 use Rattle.progress.specs.Progress.{Begins, Taken, Compared-so}
 use Rattle.steps.specs.Steps.{row, shifts, step}
-use Rattle.steps.specs.Text.{shown, span}
+use Rattle.steps.specs.Text.{shown}
 
 -- the entry at i is inside the buffer, and it is this value
 pub record Entry-at (buffer : List ℕ) (i value : ℕ) : Type 0 where
   pub inside : i < length buffer
   pub value-there : getD buffer i 0 ≡ value
 
--- the byte that the text shows at the last position, and where Δ1 has its entry
-abbrev pub last-byte : (w t : List ℕ) (b : ℕ) → ℕ
-last-byte w t b = byte t (b + length w - 1)
+-- where Δ1 has its entry for a byte
+abbrev pub first-place : (w : List ℕ) (c s : ℕ) → ℕ
+first-place w c s = c * length w + s - 1
 
-abbrev pub first-place : (w t : List ℕ) (b s : ℕ) → ℕ
-first-place w t b s = last-byte w t b * length w + s - 1
+pub first-entry :
+    (w : List ℕ) {delta1 : List ℕ} {c s : ℕ} → Begins (stored-Δ1 w) delta1 → c < 256 → 1 ≤ s → s ≤ length w →
+    Entry-at delta1 (first-place w c s) (Δ1 w c s)
+first-entry w {delta1} {c} {s} ready seen positive within =
+    let i = first-place w c s in
+    let at : i + 1 ≡ c * length w + s = omega arith in
+    let in-table = stored-Δ1-inside w c s i seen positive within at in
+    let whole = stored-Δ1-length w in
+    record {
+      inside = omega (arith, begins-room (stored-Δ1 w) delta1 ready);
+      value-there = begins-entry (stored-Δ1 w) delta1 ready i 0 (omega arith) ∙ stored-Δ1-entry w c s i seen positive within at;
+    }
 
 module _ {w t : List ℕ} (taken : Taken w t) (b : ℕ) where
-  pub first-entry :
-      {delta1 : List ℕ} {s : ℕ} → Begins (stored-Δ1 w) delta1 → b + length w ≤ span w t → 1 ≤ s → s ≤ length w →
-      last-byte w t b < 256 →
-      Entry-at delta1 (first-place w t b s) (Δ1 w (shown t (b + (length w - 1))) s)
-  first-entry {delta1} {s} ready inside positive within l =
-      let some = taken .some in
-      let last : b + length w - 1 ≡ b + (length w - 1) = omega arith in
-      let seen = last-byte w t b in
-      let i = first-place w t b s in
-      let at : i + 1 ≡ seen * length w + s = omega arith in
-      let in-table = stored-Δ1-inside w seen s i l positive within at in
-      let whole = stored-Δ1-length w in
-      let in-text : b + (length w - 1) < length t = omega (arith, span-length w t) in
-      record {
-        inside = omega (arith, begins-room (stored-Δ1 w) delta1 ready);
-        value-there =
-            begins-entry (stored-Δ1 w) delta1 ready i 0 (omega arith)
-            ∙ stored-Δ1-entry w seen s i l positive within at
-            ∙ rw (last, ← shown-byte t (b + (length w - 1)) in-text);
-      }
-
   pub order-entry :
       {delta2 : List ℕ} {agreed : ℕ} (s : ℕ) → Begins (stored-Δ2 w) delta2 → Compared-so w t b false agreed → 1 ≤ agreed →
       Entry-at delta2 agreed (step (shown t) w b s false .shift)

@@ -15,9 +15,9 @@ use Rattle.tables.specs.Tables.{period}
 use Rattle.steps.proofs.Outcome.{occurrence-shift}
 use Rattle.steps.proofs.Rows.{row-repeat, row-length}
 use Rattle.steps.proofs.Steps.{Agreed, agreed-none, agreed-more, agreed-stop, agreed-all}
-use Rattle.progress.proofs.Stretch.{at, stretch-differing, stretch-agreeing}
-use Rattle.steps.proofs.Text.{shown-byte, span-length}
-use Rattle.progress.specs.Progress.{Taken, Standing, Compared-so, Stretch}
+use Rattle.progress.proofs.Stretch.{stretch-differing, stretch-agreeing}
+use Rattle.steps.proofs.Text.{shown-byte, span-reaches}
+use Rattle.progress.specs.Progress.{at, Taken, Standing, Compared-so, Stretch}
 use Rattle.repeats.specs.Repeats.{Repeats-ready}
 use Rattle.steps.specs.Steps.{row, step}
 use Rattle.steps.specs.Text.{shown, span}
@@ -49,7 +49,7 @@ module _ {w t : List ℕ} (taken : Taken w t) {b i : ℕ} (known : Repeating w t
     shown-there = shown-byte t (b + position) (omega (arith, in-pattern))
 
     in-text : b + length w ≤ span w t
-    in-text = omega (arith, span-length w t)
+    in-text = span-reaches w t (taken .some) b (omega (arith, taken .some))
 
     pub repeating-stop : byte w position ≢ byte t (b + position) → Compared-so w t b true i
     repeating-stop d =
@@ -73,19 +73,19 @@ module _ {w t : List ℕ} (taken : Taken w t) {b i : ℕ} (known : Repeating w t
             count = rw add-one (whole ∙ sym (agreed-all (shown t) w b (row w true) (rw whole at one-more)));
           }
 
-module _ {w t delta1 delta3 : List ℕ} {p : ℕ} (ready : Repeats-ready w t delta1 delta3 p) {b h n : ℕ} (standing : Standing w t (at b p h n)) where
+module _ {w t delta1 delta3 : List ℕ} {p : ℕ} (ready : Repeats-ready w t delta1 delta3 p) {b h n : ℕ} (standing : Standing w t (at b p true h n)) where
   whole : length (row w true) ≡ p
   whole = row-length w true (ready .taken .some) ∙ sym (ready .period-is)
 
   -- the steps go on from a repeat of which one comparison differed
   pub repeat-differing :
       {agreed k : ℕ} → Compared-so w t b true agreed → agreed < p → k ≡ step (shown t) w b p true .shift →
-      Stretch w t (at b p h n) true (at (b + k) k h (n + agreed + 1)) false []
+      Stretch w t (at b p true h n) (at (b + k) k false h (n + agreed + 1)) []
   repeat-differing ended fewer shifted = stretch-differing (ready .taken) standing ended shifted (omega (arith, whole))
 
   -- and from one that is an occurrence
   pub repeat-agreeing :
-      {agreed : ℕ} → Compared-so w t b true agreed → agreed ≡ p → Stretch w t (at b p h n) true (at (b + p) p (h + 1) (n + p)) true (b ∷ [])
+      {agreed : ℕ} → Compared-so w t b true agreed → agreed ≡ p → Stretch w t (at b p true h n) (at (b + p) p true (h + 1) (n + p)) (b ∷ [])
   repeat-agreeing {agreed} ended all =
       let e : agreed ≡ length (row w true) = all ∙ sym whole in
       let shifted = ready .period-is ∙ sym (occurrence-shift (shown t) w b p (ready .taken .some) true (sym (ended .count) ∙ e)) in

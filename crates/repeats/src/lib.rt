@@ -1,11 +1,11 @@
 // The repeats after an occurrence, where the pattern repeats.
-ghost use mathlib.Core.Bool.{true, false};
+ghost use mathlib.Core.Bool.{true};
 ghost use mathlib.Core.Path.{_≡_};
 ghost use Prim.Native.Nat.{_≤_, _<_};
 ghost use lib.ListN.{length};
 ghost use Rattle.steps.specs.Steps.{step};
 ghost use Rattle.steps.specs.Text.{shown};
-ghost use Rattle.progress.specs.Progress.{Standing, Compared-so, Moved};
+ghost use Rattle.progress.specs.Progress.{Standing, Followed, Compared-so, Moved};
 ghost use Rattle.repeats.specs.Repeats.{Repeats-ready};
 use progress::Progress;
 
@@ -26,14 +26,14 @@ pub fn repeat_shift(
     ensures { λ r. ⌜ r ≡ step (shown (now (text .entry))) (now (pattern .entry)) b p true .shift ⌝ }
 {
     if agreed == 0 {
-        progress::first_shift(pattern, text, delta1, b, p)
+        progress::first_shift_around(pattern, text, delta1, b, p)
     } else {
         delta3[pattern.len() - 1 - agreed] as usize
     }
 }
 
-// Goes by the repeats after an occurrence, p the pattern's period: lists those that are occurrences, and moves on from the first that is not. It is
-// public for the crate that runs the steps.
+// Goes by the repeats after an occurrence that end inside the text, p the pattern's period: lists those that are occurrences, and moves on from the
+// first that is not. It is public for the crate that runs the steps.
 pub fn follow_repeats(
     pattern: &[u8],
     text: &[u8],
@@ -46,14 +46,16 @@ pub fn follow_repeats(
     requires { ⌜ Repeats-ready (now pattern) (now text) (now delta1) (now delta3) p ⌝ }
     requires { ⌜ Standing (now pattern) (now text) begin ⌝ }
     requires { ⌜ begin .shift ≡ p ⌝ }
+    requires { ⌜ begin .repeat ≡ true ⌝ }
     requires { ⌜ length (now text) ≤ length (now found) ⌝ }
-    ensures { λ r. ⌜ Moved (now (pattern .entry)) (now (text .entry)) begin true r false (now (found .entry)) (now (found .exit)) ⌝ }
+    ensures { λ r. ⌜ Followed (now (pattern .entry)) (now (text .entry)) r ⌝ }
+    ensures { λ r. ⌜ Moved (now (pattern .entry)) (now (text .entry)) begin r (now (found .entry)) (now (found .exit)) ⌝ }
 {
     let m = pattern.len();
-    let mut b = begin.position;
-    let mut occurrences = begin.occurrences;
-    let mut comparisons = begin.comparisons;
+    let mut run = begin;
     'repeats: loop {
+        let b = run.position;
+        let occurrences = run.occurrences;
         let mut i = 0;
         let agreed = loop {
             if text.len() < b + m {
@@ -73,19 +75,19 @@ pub fn follow_repeats(
             return Progress {
                 position: b + s,
                 shift: s,
+                repeat: false,
                 occurrences,
-                comparisons: comparisons + agreed + 1,
+                comparisons: run.comparisons + agreed + 1,
             };
         }
         found[occurrences] = b as u16;
-        occurrences += 1;
-        comparisons += p;
-        b += p;
+        run = Progress {
+            position: b + p,
+            shift: p,
+            repeat: true,
+            occurrences: occurrences + 1,
+            comparisons: run.comparisons + p,
+        };
     }
-    Progress {
-        position: b,
-        shift: p,
-        occurrences,
-        comparisons,
-    }
+    run
 }

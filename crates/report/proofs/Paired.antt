@@ -3,10 +3,11 @@
 use mathlib.Core.Bool.{true}
 use mathlib.Core.List.{List}
 use mathlib.Core.Path.{_≡_, refl, sym, _∙_}
-use Prim.Native.Nat.{ℕ, zero, suc, _+_, _*_, _<_}
+use Prim.Native.Nat.{ℕ, zero, suc, _+_, _*_, _≤_}
 use native.Mathlib.Omega.{arith}
 use lib.Dec.{eqb}
 use lib.ListN.{length, getD}
+use Rattle.answers.proofs.Bytes.{bytes-entry}
 use Rattle.answers.specs.Answers.{converted}
 use Rattle.answers.specs.Bytes.{Bytes}
 use Rattle.hex.proofs.Numbers.{number-below}
@@ -21,11 +22,11 @@ use Rattle.steps.proofs.Decide.{same-texts}
 use Rattle.steps.proofs.Text.{span-same}
 use Rattle.steps.specs.Occurrences.{occurrences}
 use Rattle.matcher.specs.Search.{search-done}
+use Rattle.frames.proofs.Holds.{holds-listed}
 use Rattle.frames.specs.Frames.{frames}
 use Rattle.ones.specs.Ones.{ones-of}
 use Rattle.converter.specs.Convert.{convert-done}
 use Rattle.printer.specs.Printed.{report-lines}
-use Rattle.converter.proofs.Paired.{frames-hold}
 use Rattle.report.proofs.Printed.{printed-done}
 use Rattle.report.specs.Paired.{Reports-paired}
 use Rattle.report.specs.Report.{done-report}
@@ -57,13 +58,14 @@ reports-paired file other e e' hold pattern size same =
     let u = text-in other in
     let limits = file-taken file e .limits in
     let m = length-pattern file in
-    let inside : q < length w = omega arith in
-    let (compared, found) = same-texts w t u (omega arith) size same in
+    let some : 1 ≤ length w = omega arith in
+    let (compared, found) = same-texts w t u some size same in
     let shared : report-lines (convert-done w u) (occurrences w u) (frames q w u)
     ≡ report-lines (converted (search-done w t) (ones-of u)) (occurrences w t) (frames q w u) = rw (compared, found, span-same w t u size) in (
       record { lines-printed = printed-done file e; holds-printed = refl },
       record {
         lines-printed = printed-done other e' ∙ rw (hold, pattern) shared;
-        holds-printed = frames-hold q w u inside (text-bytes other e') ∙ rw found (sym (frames-hold q w t inside (text-bytes file e)));
+        holds-printed =
+            holds-listed q w u (bytes-entry u (text-bytes other e')) ∙ rw (size, found) (sym (holds-listed q w t (bytes-entry t (text-bytes file e))));
       },
     )

@@ -11,8 +11,8 @@ use Rattle.steps.specs.Steps.{comparisons}
 use Rattle.steps.specs.Text.{shown}
 use Rattle.matcher.specs.Search.{search-done}
 use Rattle.frames.specs.Frames.{frames}
+use Rattle.frames.specs.Promises.{holds-of}
 use Rattle.ones.specs.Ones.{ones-of}
-use Rattle.converter.specs.Paired.{holds-from}
 use Rattle.printer.specs.Printed.{report-lines}
 use Rattle.report.specs.Report.{seek-report}
 
@@ -21,7 +21,7 @@ use Rattle.report.specs.Report.{seek-report}
 pub record Prints-as (q : ℕ) (w t file : List ℕ) : Type 0 where
   pub lines-printed :
       seek-report file ≡ report-lines (converted (search-done w t) (ones-of (text-in file))) (occurrences w t) (frames q w (text-in file))
-  pub holds-printed : holds-from 0 (frames q w (text-in file)) ≡ holds-from 0 (frames q w t)
+  pub holds-printed : holds-of (frames q w (text-in file)) ≡ holds-of (frames q w t)
 
 -- two jobs with one pattern (motif), one hold offset (hold place) and the same bytes (cards) wherever the first search compares (looks) print
 -- the same lines but for ones (holes) and moves

@@ -1,6 +1,6 @@
 -- The comparisons of one alignment by the order in progress: what the loop over them keeps, how it ends, and how the steps go on from there.
 -- An entry of the order is read as a signed number: it is a position, or -1 just after the last.
-use mathlib.Core.Bool.{true, false}
+use mathlib.Core.Bool.{Bool, true, false}
 use mathlib.Core.List.{List, [], _∷_}
 use mathlib.Core.Logic.{_≢_}
 use mathlib.Core.Path.{_≡_, refl, sym, _∙_, ap}
@@ -20,18 +20,18 @@ use Rattle.steps.proofs.Outcome.{occurrence-shift}
 use Rattle.steps.proofs.Rows.{row-order, row-length}
 use Rattle.steps.proofs.Steps.{Agreed, agreed-none, agreed-more, agreed-stop, agreed-all}
 use Rattle.progress.proofs.Stored.{begins-room, begins-entry, entry, order-read}
-use Rattle.progress.proofs.Stretch.{at, stretch-differing, stretch-agreeing}
-use Rattle.steps.proofs.Text.{shown-byte, span-length}
-use Rattle.progress.specs.Progress.{Begins, Taken, Standing, Compared-so, Stretch, Passed-differing}
+use Rattle.progress.proofs.Stretch.{stretch-differing, stretch-agreeing}
+use Rattle.steps.proofs.Text.{shown-byte, span-reaches}
+use Rattle.progress.specs.Progress.{at, Begins, Taken, Standing, Compared-so, Stretch, Passed-differing}
 use Rattle.steps.specs.Steps.{agreeing, row, step}
 use Rattle.steps.specs.Text.{shown, span}
 use Rattle.progress.specs.declared.Progress.{Progress}
 
--- i comparisons of the alignment at b agreed, the first among them, if the alignment is inside the text
+-- i comparisons of the alignment at b agreed, the first among them, if the alignment ends inside the text
 pub record Comparing (w t : List ℕ) (b i : ℕ) : Type 0 where
   pub some : 1 ≤ i
   pub within : i ≤ length w
-  pub agreed : b + length w ≤ span w t → Agreed (shown t) w b (order w) i
+  pub agreed : b + length w ≤ length t → Agreed (shown t) w b (order w) i
 
 -- the position that an entry of the order's buffer is, where it is not negative
 abbrev pub position : (row : List ℤ) (i : ℕ) → ℕ
@@ -68,10 +68,10 @@ module _ {w t : List ℕ} (row : List ℤ) (taken : Taken w t) (ready : Begins (
     at-end : i ≡ length w → entry row i ≡ negsuc 0
     at-end e = let last : i ≡ length (order w) = omega (arith, whole) in rw (stored, last, stored-order-end w)
 
-    -- the alignment is inside the text
+    -- the alignment ends inside the text
     module _ (inside : b + length w ≤ length t) where
       in-text : b + length w ≤ span w t
-      in-text = omega (arith, span-length w t)
+      in-text = span-reaches w t (taken .some) b (omega (arith, taken .some))
 
       compared : {n : ℕ} → agreeing (shown t) w b (order w) ≡ n → Compared-so w t b false n
       compared e = record { inside = in-text; count = rw (row-order w refl) (sym e) }
@@ -81,7 +81,7 @@ module _ {w t : List ℕ} (row : List ℤ) (taken : Taken w t) (ready : Begins (
       comparing-all e =
           let not-before : ¬ (i < length w) = λ l. clash _ e (rw (at-position l) (le-ltb (getD (order w) i 0) 0 (omega arith))) in
           let same : i ≡ length (order w) = omega (arith, whole, known .within) in
-          compared (agreed-all (shown t) w b (order w) (rw same at (known .agreed in-text)) ∙ sym same)
+          compared (agreed-all (shown t) w b (order w) (rw same at (known .agreed inside)) ∙ sym same)
 
       -- it is not: it is the position that is compared next
       module _ (more : ltZ (entry row i) (pos 0) ≡ false) where
@@ -113,21 +113,22 @@ module _ {w t : List ℕ} (row : List ℤ) (taken : Taken w t) (ready : Begins (
             })
 
         pub comparing-stop : byte w (position row i) ≢ byte t (b + position row i) → Compared-so w t b false i
-        comparing-stop d = compared (agreed-stop (shown t) w b (order w) i in-row (known .agreed in-text) (rw (same-byte, next) at d))
+        comparing-stop d = compared (agreed-stop (shown t) w b (order w) i in-row (known .agreed inside) (rw (same-byte, next) at d))
 
-module _ {w t : List ℕ} (taken : Taken w t) {b s h n agreed k : ℕ} (standing : Standing w t (at b s h n)) (ended : Compared-so w t b false agreed)
-    (shifted : k ≡ step (shown t) w b s false .shift) where
+module _ {w t : List ℕ} (taken : Taken w t) {b s h n agreed k : ℕ} {r : Bool} (no-repeat : r ≡ false) (standing : Standing w t (at b s r h n))
+    (ended : Compared-so w t b false agreed) (shifted : k ≡ step (shown t) w b s false .shift) where
   row-whole : length (row w false) ≡ length w
   row-whole = row-length w false (taken .some)
 
   -- the steps go on from an alignment of which one comparison differed
-  pub order-differing : agreed < length w → Stretch w t (at b s h n) false (at (b + k) k h (n + agreed + 1)) false []
-  order-differing l = stretch-differing taken standing ended shifted (omega (arith, row-whole))
+  pub order-differing : agreed < length w → Stretch w t (at b s r h n) (at (b + k) k false h (n + agreed + 1)) []
+  order-differing l = rw no-repeat (stretch-differing taken (rw no-repeat at standing) ended shifted (omega (arith, row-whole)))
 
   -- and from an occurrence, by the period
   module _ (all : agreed ≡ length w) where
-    pub order-agreeing : Stretch w t (at b s h n) false (at (b + k) k (h + 1) (n + length w)) (repeats w) (b ∷ [])
-    order-agreeing = rw all at (stretch-agreeing taken standing ended shifted (all ∙ sym row-whole))
+    pub order-agreeing : Stretch w t (at b s r h n) (at (b + k) k (repeats w) (h + 1) (n + length w)) (b ∷ [])
+    order-agreeing =
+        rw no-repeat (rw all at (stretch-agreeing taken (rw no-repeat at standing) ended shifted (all ∙ sym row-whole)))
 
     pub by-period : k ≡ period w
     by-period = shifted ∙ occurrence-shift (shown t) w b s (taken .some) false (sym (ended .count) ∙ all ∙ sym row-whole)

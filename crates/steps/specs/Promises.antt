@@ -17,7 +17,7 @@ unfoldable pub ends-at : (b : ℕ) → List Alignment → ℕ
 ends-at b [] = b
 ends-at b (a ∷ later) = ends-at (b + a .shift) later
 
--- the fuel of the steps is never short: more changes nothing, and the run ends past the text's end, as document 01's "while" does
+-- the fuel of the steps is never short: more changes nothing, and the run ends past what is shown, as document 01's "while" does
 unfoldable pub Fuel-enough : Type 0
 Fuel-enough =
     (f : ℕ → ℕ) (N : ℕ) (w : List ℕ) → 1 ≤ length w → (fuel b s : ℕ) (repeat : Bool) → N < b + fuel →

@@ -1,27 +1,26 @@
 -- Of whole calls: a job, and what `turn` answers and leaves of it, searched, converted and counted (`Searches-turned`, `Counts-turned`).
 -- A call that answers 0 met no condition of refusal; then its outcome is what the definitions give, and what is promised of these does the rest.
-use mathlib.Core.Bool.{Bool, true, false, cond}
-use mathlib.Core.List.{List, map, reverse}
-use mathlib.Core.Path.{_≡_, refl, _∙_, ap}
-use Prim.Native.Nat.{ℕ, _-_, _<_}
-use lib.ListN.{length, length-map, length-reverse}
+use mathlib.Core.List.{List}
+use mathlib.Core.Path.{_≡_, _∙_, ap}
+use Prim.Native.Nat.{ℕ, _≤_, _<_}
+use native.Mathlib.Omega.{arith}
+use lib.ListN.{length}
 use Rattle.answers.proofs.Answered.{done-only}
 use Rattle.answers.specs.Answers.{if-done, answered}
 use Rattle.answers.specs.Bytes.{Bytes}
 use Rattle.answers.specs.declared.Answer.{Answer}
-use Rattle.steps.specs.Occurrences.{occurrences}
 use Rattle.ones.specs.Ones.{ones-of, count-answer}
 use Rattle.converter.proofs.Paired.{frames-by, every-search-exact}
 use Rattle.converter.specs.Convert.{convert-status-of}
 use Rattle.converter.specs.Paired.{Call, Converts, Call-taken, Search, Every-search-exact}
 use Rattle.turn.proofs.Calls.{turn-taken, turn-done}
 use Rattle.turn.proofs.Turned.{length-turned}
-use Rattle.turn.specs.Turned.{reverses, turned, turned-index}
+use Rattle.turn.specs.Turned.{turned, turned-index}
 use Rattle.turned_jobs.proofs.Frames.{frames-turned}
-use Rattle.turned_jobs.proofs.Occurrences.{occurrences-turned}
+use Rattle.turned_jobs.proofs.Occurrences.{occurrences-turned, number-turned}
 use Rattle.turned_jobs.proofs.Ones.{ones-turned}
 use Rattle.turned_jobs.specs.Calls.{Search-turned, Searches-turned, Counts-turned}
-use Rattle.turned_jobs.specs.Promises.{turned-positions, Occurrences-turned, Frames-turned, Ones-turned}
+use Rattle.turned_jobs.specs.Promises.{Occurrences-turned, Number-turned, Frames-turned, Ones-turned}
 
 -- a conversion that is taken answers the ones
 ones-by : {q : ℕ} {w t : List ℕ} {c : Call} → Converts q w t c → Call-taken c → c .answer .ones ≡ ones-of t
@@ -30,30 +29,21 @@ ones-by {q} {w} {t} {c} h e =
     let done : convert-status-of q w t (c .lent .tables) (c .lent .found) (c .lent .frames) ≡ 0 = done-only _ _ (h .answer) e in
     ap (λ (a : Answer). a .ones) (rw done at (h .answer))
 
--- turned, the positions are as many
-length-positions : (way m n : ℕ) (bs : List ℕ) → length (turned-positions way m n bs) ≡ length bs
-unfolding turned-positions
-length-positions way m n bs = cases (reverses way)
-  where
-    cases : (z : Bool) → length (cond z (reverse (map (λ b. n - m - b) bs)) bs) ≡ length bs
-    cases true = length-reverse (map (λ b. n - m - b) bs) ∙ length-map bs (λ b. n - m - b)
-    cases false = refl
-
 -- what a search of the job and a search of the job turned, both taken, have in common
 alike :
     (way q : ℕ) (w t : List ℕ) → Bytes w → Bytes t → q < length w →
     let q' = turned-index way (length w) q in
     (c d : Call) → Search q w t c → Call-taken c → Search q' (turned way w) (turned way t) d → Call-taken d →
     Search-turned way q w t q' (turned way w) (turned way t) c d
-unfolding Every-search-exact Occurrences-turned Frames-turned Ones-turned
+unfolding Every-search-exact Occurrences-turned Number-turned Frames-turned Ones-turned
 alike way q w t hw ht inside c d s e s' e' =
     let x = every-search-exact q w t c s e in
     let y = every-search-exact _ (turned way w) (turned way t) d s' e' in
-    let same = occurrences-turned way w t hw ht in
+    let some : 1 ≤ length w = omega arith in
+    let same = occurrences-turned way w t some hw ht in
     record {
       occurrences-turned = rw (x .occurrences-found, y .occurrences-found) same;
-      same-number =
-          rw (x .occurrences-counted, y .occurrences-counted, same) (length-positions way (length w) (length t) (occurrences w t));
+      same-number = rw (x .occurrences-counted, y .occurrences-counted) (number-turned way w t some hw ht);
       frames-turned = λ h h'.
           rw (frames-by h e, rw length-turned at (frames-by h' e')) (frames-turned way q w t hw ht inside);
       same-ones = λ h h'. rw (ones-by h e, ones-by h' e') (ones-turned way t ht);

@@ -1,70 +1,72 @@
 -- The frames of a job turned are the job's frames turned (`Frames-turned`).
 -- Frame by frame: a frame is a hold just where the frame at the turned index was, since each occurrence and the hold offset are turned.
-use mathlib.Core.Bool.{Bool, true, false, _||_, cond, or-assoc, or-comm, or-false}
-use mathlib.Core.List.{List, [], _∷_, _++_, map, reverse, reverse-cons}
+use mathlib.Core.Bool.{Bool, true, false, cond}
+use mathlib.Core.List.{List}
 use mathlib.Core.Path.{_≡_, refl, sym, _∙_}
-use Prim.Native.Nat.{ℕ, suc, _+_, _-_, _≤_, _<_}
+use Prim.Native.Nat.{ℕ, suc, _+_, _-_, _%_, _≤_, _<_}
+use native.Mathlib.Nat.{mod-self, suc-mod, add-mod}
 use native.Mathlib.Omega.{arith}
-use borrow.Author.Tests.{eqb-true, eq-eqb, ne-eqb}
+use borrow.Author.Tests.{ne-eqb}
 use lib.Dec.{eqb}
 use lib.ListN.{length}
 use lib.Seq.{ext-getD}
 use Rattle.answers.proofs.Bytes.{bytes-entry}
+use Rattle.answers.specs.Bytes.{Bytes}
 use Rattle.tables.specs.Sets.{byte}
 use Rattle.steps.specs.Occurrences.{occurrences}
-use Rattle.frames.proofs.Ascending.{Ascends}
-use Rattle.frames.proofs.Holds.{length-frames, holds-right, occurrences-ascend}
-use Rattle.frames.specs.Frames.{hold, frames}
-use Rattle.frames.specs.Promises.{held-by, Holds-right}
+use Rattle.ring.proofs.Back.{back-inside, back-on}
+use Rattle.ring.specs.Ring.{back, is-in}
+use Rattle.frames.proofs.Holds.{length-frames, holds-right, held-at}
+use Rattle.frames.specs.Frames.{hold, holds, frames}
+use Rattle.frames.specs.Promises.{Holds-right}
 use Rattle.mirror.specs.Mirrored.{mirrored}
 use Rattle.turn.proofs.Turned.{mirrored-if, index-inside, length-turned-by, turned-by-entry, length-turned, turned-entry}
 use Rattle.turn.specs.Turned.{mirrors, reverses, turned, turned-index}
-use Rattle.turned_jobs.proofs.Occurrences.{same-test, positions, occurrences-turned}
-use Rattle.turned_jobs.specs.Promises.{turned-positions, Occurrences-turned, mirrored-frame, turned-frames, Frames-turned}
+use Rattle.turned_jobs.proofs.Occurrences.{turned-position, occurs-there}
+use Rattle.turned_jobs.proofs.Reversed.{reversed-only}
+use Rattle.turned_jobs.specs.Promises.{reversed-position, mirrored-frame, turned-frames, Frames-turned}
 
--- a number is held by two lists together where one of them holds it
-held-append : (q i : ℕ) (bs cs : List ℕ) → held-by q (bs ++ cs) i ≡ held-by q bs i || held-by q cs i
-unfolding held-by
-held-append q i [] cs = refl
-held-append q i (b ∷ bs) cs = rw (held-append q i bs cs) (sym (or-assoc (eqb (b + q) i) (held-by q bs i) (held-by q cs i)))
-
--- the order of the positions does not matter
-held-reversed : (q i : ℕ) (bs : List ℕ) → held-by q (reverse bs) i ≡ held-by q bs i
-unfolding held-by
-held-reversed q i [] = refl
-held-reversed q i (b ∷ bs) =
-    rw (reverse-cons b bs, held-append q i (reverse bs) (b ∷ []), held-reversed q i bs, or-false)
-    (or-comm (held-by q bs i) (eqb (b + q) i))
-
--- positions moved by f hold i' just as the positions hold i, where i' is f b + q' just where i is b + q
-held-map :
-    (q q' i i' low high : ℕ) (f : ℕ → ℕ) (bs : List ℕ) → Ascends low high bs →
-    ((b : ℕ) → b < high → eqb (f b + q') i' ≡ eqb (b + q) i) → held-by q' (map f bs) i' ≡ held-by q bs i
-unfolding held-by
-held-map q q' i i' low high f [] a same = refl
-held-map q q' i i' low high f (b ∷ bs) a same = rw (same b (a .1), held-map q q' i i' (suc b) high f bs (a .2) same)
-
--- q from the other end of the pattern, at the position from the other end, is i just where b + q is i from the other end
-same-index : (m n q i b : ℕ) → b + m ≤ n → q < m → i < n → eqb (n - m - b + (m - 1 - q)) i ≡ eqb (b + q) (n - 1 - i)
-same-index m n q i b inside h l =
-    same-test _ _
-    (λ e. let at = eqb-true (n - m - b + (m - 1 - q)) i e in eq-eqb (b + q) (n - 1 - i) (omega arith))
-    (λ e. let at = eqb-true (b + q) (n - 1 - i) e in eq-eqb (n - m - b + (m - 1 - q)) i (omega arith))
-
--- the positions turned hold i just where the positions hold its turned index
-held-turned :
-    (way m n q i : ℕ) (bs : List ℕ) → Ascends 0 (positions m n) bs → q < m → i < n →
-    held-by (turned-index way m q) (turned-positions way m n bs) i ≡ held-by q bs (turned-index way n i)
-unfolding turned-positions turned-index
-held-turned way m n q i bs a h l = cases (reverses way)
+-- the position from which the hold offset turned leads to i is, turned, the one from which the hold offset leads to i turned
+position-back :
+    (way m n q i : ℕ) → q < m → i < n → turned-position way m n (back n i (turned-index way m q)) ≡ back n (turned-index way n i) q
+unfolding turned-index
+position-back way m n q i h l = cases (reverses way)
   where
-    cases :
-        (z : Bool) → held-by (cond z (m - 1 - q) q) (cond z (reverse (map (λ b. n - m - b) bs)) bs) i ≡ held-by q bs (cond z (n - 1 - i) i)
+    cases : (z : Bool) → let b = back n i (cond z (m - 1 - q) q) in cond z (reversed-position m n b) b ≡ back n (cond z (n - 1 - i) i) q
     cases true =
-        held-reversed (m - 1 - q) i (map (λ b. n - m - b) bs)
-        ∙ held-map q (m - 1 - q) (n - 1 - i) i 0 (positions m n) (λ b. n - m - b) bs a
-        (λ b u. same-index m n q i b (omega arith) h l)
+        let some : 1 ≤ n = omega arith in
+        let a = back n (n - 1 - i) q in
+        let b = back n i (m - 1 - q) in
+        let (whole, whole') : (a + (m + b) ≡ suc (a + q + (b + (m - 1 - q)))) × (suc (n - 1 - i + i) ≡ n) = (omega arith, omega arith) in
+        let both : (a + q + (b + (m - 1 - q))) % n ≡ (n - 1 - i + i) % n =
+        add-mod (a + q) (b + (m - 1 - q)) n
+        ∙ rw (back-on n some (n - 1 - i) q, back-on n some i (m - 1 - q)) (sym (add-mod (n - 1 - i) i n)) in
+        reversed-only m n some a b (back-inside n some (n - 1 - i) q)
+        (rw (whole, suc-mod (a + q + (b + (m - 1 - q))) n, both) (sym (suc-mod (n - 1 - i + i) n) ∙ rw whole' (mod-self n)))
     cases false = refl
+
+-- position i of t is the hold of an occurrence of w
+abbrev held : (q : ℕ) (w t : List ℕ) (i : ℕ) → Bool
+held q w t i = is-in (holds (length t) q (occurrences w t)) i
+
+-- frame i of the job turned is held just where frame i turned of the job is
+held-turned :
+    (way q : ℕ) (w t : List ℕ) → Bytes w → Bytes t → q < length w → (i : ℕ) → i < length t →
+    held (turned-index way (length w) q) (turned way w) (turned way t) i ≡ held q w t (turned-index way (length t) i)
+held-turned way q w t hw ht h i l =
+    let q' = turned-index way (length w) q in
+    let w' = turned way w in
+    let t' = turned way t in
+    let n = length t in
+    let some : 1 ≤ length w = omega arith in
+    let (size, size') : (length w' ≡ length w) × (length t' ≡ n) = (length-turned way w, length-turned way t) in
+    held-at w' t' (omega arith) q' i (omega arith)
+    ∙ rw (
+      size',
+      occurs-there way w t some hw ht (back n i q') (back-inside n (omega arith) i q'),
+      position-back way (length w) n q i h l,
+    )
+    (sym (held-at w t some q (turned-index way n i) (index-inside way n i l)))
 
 -- a hold mirrored is a hold, and a move mirrored is one with its byte mirrored, if the way mirrors
 frame-mirrored :
@@ -80,25 +82,23 @@ frame-mirrored way x z h = cases (mirrors way) z
     cases false z = refl
 
 pub frames-turned : Frames-turned
-unfolding Frames-turned turned-frames Holds-right Occurrences-turned
+unfolding Frames-turned turned-frames Holds-right
 frames-turned way q w t hw ht h =
     let w' = turned way w in
     let t' = turned way t in
     let q' = turned-index way (length w) q in
     let sizes = length-turned way t in
     let sizes' = length-frames q w t in
-    let all = occurrences-ascend w t (positions (length w) (length t)) (λ b u. omega arith) in
     ext-getD 0 _ _ (length-frames q' w' t' ∙ sizes ∙ sym (length-turned-by mirrored-frame way (frames q w t) ∙ sizes'))
     (λ i l.
     let inside : i < length t = rw (length-frames, length-turned) at l in
     let i' = turned-index way (length t) i in
     holds-right q' i w' t' (omega arith)
     ∙ rw (
-      occurrences-turned way w t hw ht,
-      held-turned way (length w) (length t) q i (occurrences w t) all h inside,
+      held-turned way q w t hw ht h i inside,
       turned-entry way t i inside,
       turned-by-entry mirrored-frame way (frames q w t) i (omega arith),
       sizes',
       holds-right q i' w t (index-inside way (length t) i inside),
     )
-    (frame-mirrored way (byte t i') (held-by q (occurrences w t) i') (bytes-entry t ht i')))
+    (frame-mirrored way (byte t i') (held q w t i') (bytes-entry t ht i')))

@@ -1,36 +1,44 @@
--- The numbers of a run that pass a test, counted from the other end: those that pass the test turned, in reverse order.
--- By induction on the run, whose first number is the last of the other.
-use mathlib.Core.Bool.{Bool, true, false, cond}
-use mathlib.Core.List.{[], _∷_, _++_, map, reverse, append-nil, reverse-cons}
-use mathlib.Core.Logic.{⊎-elim}
-use mathlib.Core.Path.{_≡_, refl, sym}
-use Prim.Native.Nat.{ℕ, zero, suc, _+_, _-_, _<_}
-use native.Mathlib.Nat.{add-zero}
+-- Positions of a ring after its order is reversed: `reversed-position` is below n, and below n it is its own inverse.
+-- From position b reversed, m + b further on is full turns; from no other position below n it is.
+use mathlib.Core.Path.{_≡_, sym, _∙_, ap}
+use Prim.Native.Nat.{ℕ, _+_, _-_, _%_, _≤_, _<_}
+use native.Mathlib.Nat.{zero-add, mod-self, mod-eq-of-lt, add-mod-left}
 use native.Mathlib.Omega.{arith}
-use Rattle.tables.proofs.Cases.{true-or-false}
-use Rattle.frames.proofs.Ascending.{passing}
+use borrow.Author.Tests.{eqb-true, eq-eqb}
+use lib.Dec.{eqb}
+use Rattle.ring.proofs.Back.{same-test, back-inside, back-on, on-back}
+use Rattle.ring.specs.Ring.{back}
+use Rattle.turned_jobs.specs.Promises.{reversed-position}
 
--- the last number of a run passes or not
-last-passing : (n a : ℕ) (f : ℕ → Bool) → passing (suc n) a f ≡ passing n a f ++ cond (f (a + n)) ((a + n) ∷ []) []
-unfolding passing
-last-passing zero a f = rw add-zero
-last-passing (suc n) a f =
-    let there : suc a + n ≡ a + suc n = omega arith in
-    rw (last-passing n (suc a) f, there) (⊎-elim (λ e. rw e) (λ e. rw e) (true-or-false (f a)))
+module _ (m n : ℕ) (some : 1 ≤ n) where
+  -- from b reversed, m + b further on is full turns
+  pub reversed-turn : (b : ℕ) → (reversed-position m n b + (m + b)) % n ≡ 0
+  reversed-turn b = back-on n some n (m + b) ∙ mod-self n
 
--- two runs of n numbers and two tests, of which one passes k - x just where the other passes x
-pub passing-reversed :
-    (n a b k : ℕ) (f g : ℕ → Bool) → (0 < n → a + b + n ≡ suc k) → ((x y : ℕ) → x < b + n → x + y ≡ k → g y ≡ f x) →
-    passing n a g ≡ reverse (map (λ x. k - x) (passing n b f))
-unfolding passing
-passing-reversed zero a b k f g h same = refl
-passing-reversed (suc n) a b k f g h same =
-    let size = h (omega arith) in
-    let there : k - b ≡ a + n = omega arith in
-    let later = map (λ x. k - x) (passing n (suc b) f) in
-    let rest = passing-reversed n a (suc b) k f g (λ l. omega arith) (λ x y l. same x y (omega arith)) in
-    rw (last-passing n a g, same b (a + n) (omega arith) (omega arith), rest)
-    (⊎-elim
-    (λ (e : f b ≡ true). rw (e, ← there) (sym (reverse-cons (k - b) later)))
-    (λ (e : f b ≡ false). rw e (append-nil (reverse later)))
-    (true-or-false (f b)))
+  pub reversed-inside : (b : ℕ) → reversed-position m n b < n
+  reversed-inside b = back-inside n some n (m + b)
+
+  -- k back from 0 is k back from a full turn
+  from-zero : (k : ℕ) → back n n k ≡ back n 0 k
+  unfolding back
+  from-zero k = rw zero-add (add-mod-left n (n - k % n))
+
+  -- only from b reversed is it so
+  pub reversed-only : (a b : ℕ) → a < n → (a + (m + b)) % n ≡ 0 → reversed-position m n b ≡ a
+  reversed-only a b l e = from-zero (m + b) ∙ rw e at (on-back n some a (m + b)) ∙ mod-eq-of-lt l
+
+  pub reversed-twice : (b : ℕ) → b < n → reversed-position m n (reversed-position m n b) ≡ b
+  reversed-twice b l =
+      let moved : reversed-position m n b + (m + b) ≡ b + (m + reversed-position m n b) = omega arith in
+      reversed-only b (reversed-position m n b) l (rw moved at (reversed-turn b))
+
+  -- a reversed is b just where b reversed is a
+  pub reversed-test : (a b : ℕ) → a < n → b < n → eqb (reversed-position m n a) b ≡ eqb a (reversed-position m n b)
+  reversed-test a b l l' =
+      same-test _ _
+      (λ e. eq-eqb _ _ (sym (reversed-twice a l) ∙ ap (reversed-position m n) (eqb-true _ b e)))
+      (λ e. eq-eqb _ _ (ap (reversed-position m n) (eqb-true a _ e) ∙ reversed-twice b l'))
+
+  -- different positions are different reversed
+  pub reversed-once : (a b : ℕ) → a < n → b < n → reversed-position m n a ≡ reversed-position m n b → a ≡ b
+  reversed-once a b l l' e = sym (reversed-twice a l) ∙ ap (reversed-position m n) e ∙ reversed-twice b l'

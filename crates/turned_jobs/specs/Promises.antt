@@ -1,27 +1,38 @@
 -- What is promised of a job that is turned (document 02, "Mirrored edges"): its occurrences (finds), its frames and its ones (holes).
 -- Each is a type, and its proof is in proofs/. These are definitions.
 use mathlib.Core.Bool.{cond}
-use mathlib.Core.List.{List, map, reverse}
+use mathlib.Core.List.{List, map}
 use mathlib.Core.Path.{_≡_}
-use Prim.Native.Nat.{ℕ, _-_, _<_}
+use Prim.Native.Nat.{ℕ, _+_, _≤_, _<_}
 use lib.Dec.{eqb}
 use lib.ListN.{length}
 use Rattle.answers.specs.Bytes.{Bytes}
 use Rattle.steps.specs.Occurrences.{occurrences}
+use Rattle.ring.specs.Ring.{back, ascending}
 use Rattle.ones.specs.Ones.{ones-of}
 use Rattle.frames.specs.Frames.{hold, frames}
 use Rattle.mirror.specs.Mirrored.{mirrored}
 use Rattle.turn.specs.Turned.{reverses, turned-by, turned, turned-index}
 
--- the positions (places) of a job turned: n - m - b for each position b in ways 2 and 3, in reverse order so as to ascend again, and else the same
+-- n - m - b modulo n: where position (place) b of a ring of n is after its order is reversed, for a pattern (motif) of m
+abbrev pub reversed-position : (m n b : ℕ) → ℕ
+reversed-position m n b = back n n (m + b)
+
+-- the positions of a job turned: n - m - b modulo n for each position b in ways 2 and 3, ascending again, and else the same
 unfoldable pub turned-positions : (way m n : ℕ) → (positions : List ℕ) → List ℕ
-turned-positions way m n bs = cond (reverses way) (reverse (map (λ b. n - m - b) bs)) bs
+turned-positions way m n bs = cond (reverses way) (ascending n (map (reversed-position m n) bs)) bs
 
 -- a pattern (motif) and a text (chain) turned alike have these occurrences (finds)
 unfoldable pub Occurrences-turned : Type 0
 Occurrences-turned =
-    (way : ℕ) (w t : List ℕ) → Bytes w → Bytes t →
+    (way : ℕ) (w t : List ℕ) → 1 ≤ length w → Bytes w → Bytes t →
     occurrences (turned way w) (turned way t) ≡ turned-positions way (length w) (length t) (occurrences w t)
+
+-- as many as the job has
+unfoldable pub Number-turned : Type 0
+Number-turned =
+    (way : ℕ) (w t : List ℕ) → 1 ≤ length w → Bytes w → Bytes t →
+    length (occurrences (turned way w) (turned way t)) ≡ length (occurrences w t)
 
 -- a frame mirrored: a hold stays a hold, and a move is one with its byte (card) mirrored
 unfoldable pub mirrored-frame : (frame : ℕ) → ℕ

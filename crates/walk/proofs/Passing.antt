@@ -14,7 +14,7 @@ use Rattle.tables.specs.Tables.{Δ1, period, repeats}
 use Rattle.steps.proofs.Outcome.{occurrence-shift}
 use Rattle.steps.proofs.Rows.{row-first, row-some}
 use Rattle.steps.proofs.Steps.{agreeing-ends, step-shift-first, step-repeat}
-use Rattle.steps.proofs.Text.{shown-byte, span-length}
+use Rattle.steps.proofs.Text.{shown-byte, span-ends}
 use Rattle.steps.specs.Steps.{agreeing, row, step, repeat-after}
 use Rattle.steps.specs.Text.{shown, span}
 use Rattle.progress.specs.Progress.{Taken, Compared-so}
@@ -34,7 +34,7 @@ module _ {w t : List ℕ} (taken : Taken w t) (b : ℕ) (in-text : b + length w 
       k ≡ Δ1 w (shown t (c + (length w - 1))) s → Walked w t b (at (c + k) k false) (length w)
   passed-differing so-far before {k} differs shifted =
       let f = shown t in
-      let seen = shown-byte t (c + (length w - 1)) (omega (arith, taken .some, span-length w t)) in
+      let seen = shown-byte t (c + (length w - 1)) (omega (arith, taken .some, span-ends w t (taken .some) b in-text)) in
       let ends = agreeing-ends f w c (row w false) in
       let some : ¬ (1 ≤ agreeing f w c (row w false)) = λ l. differs (sym (rw (row-first w false, seen) at (ends .agree 0 l))) in
       let none : agreeing f w c (row w false) ≡ 0 = omega arith in

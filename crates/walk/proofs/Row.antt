@@ -2,7 +2,7 @@
 -- By what the comparisons along a row spoil.
 use mathlib.Core.List.{List}
 use mathlib.Core.Logic.{_≢_, ⊎-elim}
-use mathlib.Core.Path.{_≡_, sym, _∙_}
+use mathlib.Core.Path.{_≡_, sym}
 use Prim.Native.Nat.{ℕ, suc, _+_, _-_, _≤_, _<_}
 use native.Mathlib.Nat.{eq-or-lt-of-le}
 use native.Mathlib.Omega.{arith}
@@ -10,7 +10,6 @@ use lib.ListN.{length, getD}
 use Rattle.tables.specs.Sets.{byte}
 use Rattle.steps.proofs.Rows.{row-below}
 use Rattle.steps.proofs.Steps.{step-comparisons}
-use Rattle.steps.proofs.Text.{shown-byte, span-length}
 use Rattle.steps.specs.Steps.{agreeing, row, compared}
 use Rattle.steps.specs.Text.{shown}
 use Rattle.progress.specs.Progress.{Taken, Compared-so}
@@ -48,24 +47,17 @@ module _ {w t : List ℕ} (taken : Taken w t) (x : Laid) {agreed : ℕ} (ended :
     pub below : getD entries i 0 < length w
     below = row-below w (x .repeat) (taken .some) i inside
 
-    read : f y ≡ byte t y
-    read = shown-byte t y (omega (arith, below, ended .inside, span-length w t))
-
     -- it spoils b
-    pub spoils-here : i ≤ agreed → x .position ≤ b → b ≤ y → byte t y ≢ byte w (y - b) → Spoils (y - b)
+    pub spoils-here : i ≤ agreed → x .position ≤ b → b ≤ y → f y ≢ byte w (y - b) → Spoils (y - b)
     spoils-here few before low differs =
-        let differing : f y ≢ byte w (y - b) = λ e. differs (sym read ∙ e) in
         rw (step-comparisons f w (x .position) (x .shift) (x .repeat), counted, at)
-        (sym (first-along f w b (x .position) (suc agreed) entries i (omega arith) inside (omega arith) (omega (arith, below)) (rw at at differing) clear))
+        (sym (first-along f w b (x .position) (suc agreed) entries i (omega arith) inside (omega arith) (omega (arith, below)) (rw at at differs) clear))
 
     -- or not
-    pub clear-more : (b ≤ y → byte t y ≡ byte w (y - b)) → Clear w t x b (i + 1)
+    pub clear-more : (b ≤ y → f y ≡ byte w (y - b)) → Clear w t x b (i + 1)
     clear-more agrees k l u low =
         let up-to : k ≤ i = omega arith in
         ⊎-elim
-        (λ e. rw e (rw at at (shows (rw e at low))))
+        (λ e. rw e (rw at at (agrees (rw (at, ← e) low))))
         (λ before. clear k before u low)
         (eq-or-lt-of-le up-to)
-      where
-        shows : b ≤ x .position + getD entries i 0 → f y ≡ byte w (y - b)
-        shows v = read ∙ agrees (omega arith)

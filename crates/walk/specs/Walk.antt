@@ -12,7 +12,7 @@ use Rattle.explanations.specs.Explanation.{first-spoilt}
 use Rattle.explanations.specs.Promises.{Made}
 use Rattle.walk.specs.declared.Reached.{Reached}
 
--- the tables in front of their buffers, and a position inside the text
+-- the tables in front of their buffers, and a position from which the pattern is shown whole
 pub record Walk-ready (w t : List ℕ) (order : List ℤ) (delta2 delta1 delta3 : List ℕ) (p b : ℕ) : Type 0 where
   pub rows : Row-ready w t order p
   pub shifts : Shift-tables-ready w t delta2 delta1 delta3 p

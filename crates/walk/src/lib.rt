@@ -131,7 +131,7 @@ fn spoilt_by(
     let mut i = 0;
     while i < count && i <= agreed {
         let x = here.position + alignments::row_entry(pattern, order, here.repeat, i);
-        if b <= x && text[x] != pattern[x - b] {
+        if b <= x && ring::byte_at(text, x) != pattern[x - b] {
             return x - b;
         }
         i += 1;
@@ -157,7 +157,7 @@ pub fn reach(
     let mut here = approach(pattern, text, order, delta2, delta1, delta3, p, b);
     let mut spoilt = m;
     loop {
-        let agreed = alignments::agreeing(pattern, text, order, p, here);
+        let agreed = alignments::agreeing_around(pattern, text, order, p, here);
         if spoilt == m {
             spoilt = spoilt_by(pattern, text, order, p, here, agreed, b);
         }

@@ -1,15 +1,14 @@
 -- The worked examples hold of the definitions.
 -- Each claim is computed: both sides of its equation come to the same value. The longest jobs go by the laws of written files and of equal bytes.
-use mathlib.Core.Bool.{true, false, _&&_, and-false}
-use mathlib.Core.List.{[], _∷_}
-use mathlib.Core.Logic.{⊎-elim}
+use mathlib.Core.Bool.{false, and-false}
+use mathlib.Core.List.{List, [], _∷_}
 use mathlib.Core.Path.{_≡_, refl, _∙_}
-use Prim.Native.Nat.{ℕ, zero, suc, _+_, _≤_, _<_}
+use Prim.Native.Nat.{ℕ, zero, suc, _+_, _%_, _≤_, _<_}
+use native.Mathlib.Nat.{mod-lt}
 use native.Mathlib.Omega.{arith}
-use borrow.Author.Tests.{lt-leb}
 use lib.Count.{ones}
 use lib.Dec.{leb, eqb}
-use lib.ListN.{replicate, length-replicate, getD-replicate}
+use lib.ListN.{length, replicate, length-replicate, getD-replicate}
 use Rattle.answers.proofs.Bytes.{each-byte}
 use Rattle.answers.specs.Answers.{if-done, answered}
 use Rattle.answers.specs.Buffers.{from-entry, in-front}
@@ -23,17 +22,17 @@ use Rattle.job.specs.Promises.{Written-read}
 use Rattle.job.specs.Read.{read-status, read-answer}
 use Rattle.job.specs.Write.{write-status, write-answer}
 use Rattle.tables.specs.Least.{least-from, all-from}
-use Rattle.tables.proofs.Cases.{le-or-lt}
 use Rattle.tables.specs.Buffers.{tables-left}
 use Rattle.tables.specs.Prepare.{prepare-status}
-use Rattle.tables.specs.Sets.{byte, Pos, Neg}
+use Rattle.tables.specs.Sets.{Pos, Neg}
 use Rattle.tables.specs.Tables.{h-min, k-min, r-min, period, second-group-from, second-group, third-group-from, third-group, order, stored-order, Δ2, values-from, stored-Δ2, Δ1, stored-Δ1, repeats, Δ3, Δ3-defined, stored-Δ3, falling, repeat-row, repeat-shifts}
+use Rattle.steps.proofs.Text.{shown-at}
 use Rattle.steps.specs.Occurrences.{occurs, occurrences-from, all-occurrences, occurrences}
 use Rattle.steps.specs.Bound.{bound}
 use Rattle.steps.specs.Steps.{agreeing, row, shifts, step, alignments-from, alignments, compared, is-occurrence, repeat-after, comparisons-of, listed, comparisons}
 use Rattle.steps.specs.Text.{shown, span}
 use Rattle.matcher.specs.Search.{search-status, found-left}
-use Rattle.frames.specs.Frames.{with-holds, frames}
+use Rattle.frames.specs.Frames.{holds, with-holds, frames}
 use Rattle.ones.specs.Ones.{ones-of, count-status, count-answer}
 use Rattle.ones.specs.Words.{word-of}
 use Rattle.converter.specs.Convert.{convert-status, frames-left}
@@ -68,22 +67,23 @@ taken m q n hq hm hn =
     all-a : (k : ℕ) → Bytes (replicate k a)
     all-a k = each-byte (replicate k a) (λ i l. rw (getD-replicate k i a 0 (rw length-replicate at l)) (omega arith))
 
--- a byte that a text of equal bytes does not have occurs nowhere in it, so the text's frames are its bytes
-none-occurs : (n c d count at : ℕ) → eqb c d ≡ false → occurrences-from count at (shown (replicate n c)) n (d ∷ []) ≡ []
-unfolding occurrences-from occurs all-from shown
-none-occurs n c d zero i e = refl
-none-occurs n c d (suc k) i e = rw (absent, none-occurs n c d k (suc i) e)
-  where
-    absent : leb (i + 1) n && (eqb (byte (replicate n c) (i + 0)) d && true) ≡ false
-    absent =
-        ⊎-elim
-        (λ past. rw (lt-leb (i + 1) n (omega arith)))
-        (λ inside. rw (getD-replicate n (i + 0) c 0 (omega arith), e) (and-false (leb (i + 1) n)))
-        (le-or-lt n i)
+-- a byte that a text does not show occurs nowhere in it, so the text's frames are its bytes
+none-occurs : (f : ℕ → ℕ) (N d count at : ℕ) → ((x : ℕ) → eqb (f x) d ≡ false) → occurrences-from count at f N (d ∷ []) ≡ []
+unfolding occurrences-from occurs all-from
+none-occurs f N d zero i none = refl
+none-occurs f N d (suc k) i none = rw (none (i + 0), and-false (leb (i + 1) N), none-occurs f N d k (suc i) none)
 
-job-none : (n c d q : ℕ) → eqb c d ≡ false → job-cost q (d ∷ []) (replicate n c) ≡ cost (replicate n c) (replicate n c)
-unfolding occurrences all-occurrences span frames with-holds
-job-none n c d q e = rw (length-replicate n c, none-occurs n c d (suc n) 0 e)
+-- a text of equal bytes shows no other
+shown-equal : (n c x : ℕ) → 1 ≤ n → shown (replicate n c) x ≡ c
+shown-equal n c x some =
+    let inside : x % length (replicate n c) < n = rw (length-replicate n c) (mod-lt x some) in
+    rw (shown-at (replicate n c) x) (getD-replicate n (x % length (replicate n c)) c 0 inside)
+
+job-none : (n c d q : ℕ) → 1 ≤ n → eqb c d ≡ false → job-cost q (d ∷ []) (replicate n c) ≡ cost (replicate n c) (replicate n c)
+unfolding occurrences all-occurrences frames holds with-holds
+job-none n c d q some e =
+    let (t, w) : List ℕ × List ℕ = (replicate n c, d ∷ []) in
+    rw (none-occurs (shown t) (span w t) d (suc (span w t)) 0 (λ x. rw (shown-equal n c x some) e))
 
 pub examples-hold : All-hold examples
 unfolding bytes Holds examples All All-hold
@@ -93,7 +93,7 @@ unfolding bytes Holds examples All All-hold
     repeats Δ3 Δ3-defined stored-Δ3 falling repeat-row repeat-shifts
     occurs occurrences-from all-occurrences occurrences bound shown span
     agreeing row shifts step alignments-from alignments compared is-occurrence repeat-after comparisons-of listed comparisons
-    with-holds frames ones ones-of word-of line done-report seek-report
+    holds with-holds frames ones ones-of word-of line done-report seek-report
     reversed-bits mirrored turned-by turned turned-index turn-status turn-answer turned-left from-entry in-front
     restored converts-again is-conversion restore-status restored-left
     byte-price sum-from total rebate cost price-status price-answer tables-left stored-Δ1 found-left
@@ -118,13 +118,13 @@ examples-hold =
     then (refl, (refl, (refl, (refl, (refl, (refl, tt))))))
     then (refl, (refl, (refl, (refl, (refl, tt)))))
     then (refl, (refl, (refl, (refl, (refl, (refl, (refl, (refl, (refl, tt)))))))))
-    then ((refl, refl), ((refl, refl), ((refl, refl), ((refl, refl), (refl, (refl, tt))))))
+    then ((refl, refl), ((refl, refl), ((refl, refl), ((refl, refl), (refl, (refl, ((refl, refl), ((refl, refl), ((refl, refl), ((refl, refl), tt))))))))))
     then (refl, (refl, (refl, (refl, (refl, (refl, (refl, (refl, (refl, (refl, (refl, (refl, (refl, (refl, (refl, tt)))))))))))))))
     then (refl, (record { answer = refl; text-left = refl }, (record { answer = refl; text-left = refl }, (record { answer = refl; text-left = refl }, (record { answer = refl; text-left = refl }, (refl, (refl, (refl, tt))))))))
-    then (refl, (refl, (refl, (refl, (refl, (refl, (refl, (refl, (refl, (record { answer = refl; text-left = refl }, (record { answer = refl; text-left = refl }, (record { answer = refl; text-left = refl }, (record { answer = refl; text-left = refl }, (record { answer = refl; text-left = refl }, (record { answer = refl; text-left = refl }, tt)))))))))))))))
-    then (record { answer = refl; text-left = refl }, (record { answer = refl; text-left = refl }, (record { answer = refl; text-left = refl }, (record { answer = refl; text-left = refl }, (record { answer = refl; text-left = refl }, (record { answer = refl; text-left = refl }, (refl, (refl, (refl, (refl, tt))))))))))
+    then (refl, (refl, (refl, (refl, (refl, (refl, (refl, (refl, (refl, (refl, (record { answer = refl; text-left = refl }, (record { answer = refl; text-left = refl }, (record { answer = refl; text-left = refl }, (record { answer = refl; text-left = refl }, (record { answer = refl; text-left = refl }, (record { answer = refl; text-left = refl }, tt))))))))))))))))
+    then (record { answer = refl; text-left = refl }, (record { answer = refl; text-left = refl }, (record { answer = refl; text-left = refl }, (record { answer = refl; text-left = refl }, (record { answer = refl; text-left = refl }, (record { answer = refl; text-left = refl }, (refl, (refl, (refl, (refl, (refl, tt)))))))))))
     then (refl, (refl, (refl, (refl, (refl, (refl, (refl, (refl, (refl, (refl, (refl, (refl, (refl, (refl, (refl, tt)))))))))))))))
-    then (job-none 4097 0x00 b 0 refl ∙ cost-equal 4097 0x00 0x00, (cost-equal 4096 0x00 0x00, (cost-equal 4097 0x00 0x00, (cost-equal 4096 0x00 256, (cost-equal 4097 0x00 256, (cost-equal 16384 0xFF 256, (refl, (refl, (refl, (refl, (refl, (refl, tt))))))))))))
+    then (job-none 4097 0x00 b 0 (omega arith) refl ∙ cost-equal 4097 0x00 0x00, (cost-equal 4096 0x00 0x00, (cost-equal 4097 0x00 0x00, (cost-equal 4096 0x00 256, (cost-equal 4097 0x00 256, (cost-equal 16384 0xFF 256, (refl, (refl, (refl, (refl, (refl, (refl, tt))))))))))))
     then (record { answer = refl; tables = refl; occurrences-left = refl }, (record { answer = refl; tables = refl; occurrences-left = refl }, (record { answer = refl; tables = refl; occurrences-left = refl }, (record { answer = refl; tables = refl; occurrences-left = refl }, (record { answer = refl; tables = refl; occurrences-left = refl }, (record { answer = refl; tables = refl; occurrences-left = refl }, (record { answer = refl; tables = refl; occurrences-left = refl }, (refl, (refl, (refl, (refl, (refl, (refl, (refl, (refl, (refl, (refl, (refl, (refl, (refl, (refl, tt)))))))))))))))))))))
     then (refl, (refl, (refl, (refl, tt))))
     then (refl, (refl, (refl, (refl, (refl, (refl, (refl, (refl, (refl, (refl, (refl, (refl, (refl, (refl, (refl, (refl, (refl, (refl, tt))))))))))))))))))
@@ -134,6 +134,7 @@ examples-hold =
     then (refl, ((refl, refl), (refl, (refl, ((refl, refl), (refl, (refl, (refl, (refl, (refl, (refl, tt)))))))))))
     then (refl, (refl, (refl, (refl, (refl, tt)))))
     then (refl, (refl, (refl, (refl, (refl, (refl, tt))))))
-    then (refl, (refl, (refl, (refl, (refl, (refl, (refl, (refl, (refl, (refl, (refl, (refl, (refl, (refl, (refl, (refl, (refl, (refl, (refl, tt)))))))))))))))))))
-    then (refl, (refl, (refl, (refl, (refl, (refl, (refl, (refl, (refl, (refl, (refl, (refl, (refl, (refl, (refl, (refl, (refl, (refl, (record { answer = refl; tables = refl }, (record { answer = refl; tables = refl }, (record { answer = refl; tables = refl }, (record { answer = refl; tables = refl }, tt))))))))))))))))))))))
+    then (refl, (refl, (refl, (refl, (refl, (refl, (refl, (refl, (refl, (refl, (refl, (refl, (refl, (refl, (refl, (refl, (refl, (refl, (refl, (refl, (refl, (refl, (refl, tt)))))))))))))))))))))))
+    then (refl, (refl, (refl, (refl, (refl, (refl, (refl, (refl, (refl, (refl, (refl, (refl, (refl, (refl, (refl, (refl, (refl, (refl, (refl, (record { answer = refl; tables = refl }, (record { answer = refl; tables = refl }, (record { answer = refl; tables = refl }, (record { answer = refl; tables = refl }, tt)))))))))))))))))))))))
+    then (refl, ((refl, refl), (refl, (refl, ((refl, refl), ((refl, refl), (refl, (refl, (refl, (refl, (refl, (record { answer = refl; text-left = refl }, (record { answer = refl; text-left = refl }, (refl, (record { answer = refl; tables = refl; occurrences-left = refl; moves-and-holds-left = refl }, (record { answer = refl; tables = refl; occurrences-left = refl }, (record { answer = refl; tables = refl; occurrences-left = refl }, (record { answer = refl; tables = refl }, (refl, (refl, (refl, (refl, tt))))))))))))))))))))))
     then tt

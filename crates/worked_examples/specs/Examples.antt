@@ -283,7 +283,7 @@ abbrev listing-file : String
 listing-file = "0105020009\n06\n06\n18\n06\n06\n06\n06\n18\n06\n06\n06\n18\n06\n06\n"
 
 abbrev listing-printed : String
-listing-printed = "0002\n0000000C\n00000012\n0003\n0000000D\n0000\n0004\n0006\n0006\n0100\n0006\n0006\n0006\n0100\n0006\n0006\n"
+listing-printed = "0002\n0000000D\n00000012\n0003\n00000015\n0000\n0004\n0006\n0006\n0100\n0006\n0006\n0006\n0100\n0006\n0006\n"
 
 -- the table; above each row stands document 01's line, or document 02's
 unfoldable pub examples : List Example
@@ -302,30 +302,30 @@ examples =
     ∷ [])
     -- 3. a a c a a: Δ1(c, 1) = 2, Δ1(c, 2) = 5, Δ1(c, 5) = 2
     ∷ row 3 (Δ1-is aacaa c 1 2 ∷ Δ1-is aacaa c 2 5 ∷ Δ1-is aacaa c 5 2 ∷ [])
-    -- 4. The listing above: finds 0 and 4, C 12, and the bound is 13. Document 02: its lines of p and the bound are 0003 and 0000000D
+    -- 4. The listing above: finds 0 and 4. Document 02: its line of p is 0003, and by "Chains are laced into a ring" C is 0000000D and the bound 00000015
     ∷ row 4
     (job-file-is 2 aacaa listing listing-file
     ∷ seek-prints listing-file listing-printed
     ∷ occurrences-are aacaa listing (0 ∷ 4 ∷ [])
-    ∷ comparisons-are aacaa listing 12
-    ∷ bound-is aacaa listing 13
+    ∷ comparisons-are aacaa listing 13
+    ∷ bound-is aacaa listing 21
     ∷ [])
     -- 5. Motif a a c a a, empty chain: no finds, C 0
     ∷ row 5 (occurrences-are aacaa [] [] ∷ comparisons-are aacaa [] 0 ∷ [])
     -- 6. Motif a, chain a: find 0, C 1
     ∷ row 6 (occurrences-are (a ∷ []) (a ∷ []) (0 ∷ []) ∷ comparisons-are (a ∷ []) (a ∷ []) 1 ∷ [])
-    -- 7. Motif a a a a, chain of six a: finds 0, 1, 2; by document 02, "Long repeats", C 6
+    -- 7. Motif a a a a, chain of six a: by document 02, "Chains are laced into a ring", finds 0 to 5 and C 9
     ∷ row 7
-    (occurrences-are aaaa (replicate 6 a) (0 ∷ 1 ∷ 2 ∷ [])
-    ∷ comparisons-are aaaa (replicate 6 a) 6
+    (occurrences-are aaaa (replicate 6 a) (0 ∷ 1 ∷ 2 ∷ 3 ∷ 4 ∷ 5 ∷ [])
+    ∷ comparisons-are aaaa (replicate 6 a) 9
     ∷ [])
     -- 8. Motif a, chain a c a: finds 0 and 2, C 3
     ∷ row 8
     (occurrences-are (a ∷ []) (a ∷ c ∷ a ∷ []) (0 ∷ 2 ∷ [])
     ∷ comparisons-are (a ∷ []) (a ∷ c ∷ a ∷ []) 3
     ∷ [])
-    -- 9. Motif a a, chain a: no finds, C 0
-    ∷ row 9 (occurrences-are (a ∷ a ∷ []) (a ∷ []) [] ∷ comparisons-are (a ∷ a ∷ []) (a ∷ []) 0 ∷ [])
+    -- 9. Motif a a, chain a: by document 02, "Chains are laced into a ring", find 0 and C 2
+    ∷ row 9 (occurrences-are (a ∷ a ∷ []) (a ∷ []) (0 ∷ []) ∷ comparisons-are (a ∷ a ∷ []) (a ∷ []) 2 ∷ [])
     -- 10. Chain FF 00: 8 holes
     ∷ row 10 (ones-are (0xFF ∷ 0x00 ∷ []) 8 ∷ [])
     -- Edges: m 128 taken, 129 gives 4; m 0 with q 0 gives 4
@@ -421,8 +421,8 @@ examples =
     -- the holes. Turned away, an answer holds the refusal and zeros elsewhere
     ∷ row 17
     (answers-are (answered 0 (prepare-done aacaa)) (answer 0 0 0 0 3 0)
-    ∷ answers-are (answered 0 (search-done aacaa listing)) (answer 0 2 12 0 3 13)
-    ∷ answers-are (answered 0 (convert-done aacaa listing)) (answer 0 2 12 18 3 13)
+    ∷ answers-are (answered 0 (search-done aacaa listing)) (answer 0 2 13 0 3 21)
+    ∷ answers-are (answered 0 (convert-done aacaa listing)) (answer 0 2 13 18 3 21)
     ∷ answers-are (count-answer (0xFF ∷ 0x00 ∷ [])) (answer 0 0 0 8 0 0)
     ∷ answers-are (answered 7 (convert-done aacaa listing)) (zeros-beside 7)
     ∷ [])
@@ -438,7 +438,8 @@ examples =
     ∷ turn-answers-are (turn-answer 0 3 4 1) (turn-answered 0 2)
     ∷ turn-answers-are (turn-answer 8 3 4 1) (turn-answered 8 0)
     ∷ [])
-    -- A motif and chain turned alike have the same finds for ways 0 and 1, and n - m - b for each find b for ways 2 and 3
+    -- A motif and chain turned alike have the same finds for ways 0 and 1, and n - m - b modulo n for each find b for ways 2 and 3, ascending again,
+    -- also over the seam and for n below m
     ∷ row 19
     (occurrences-are aac listing (0 ∷ 4 ∷ [])
     ∷ occurrences-are (turned 1 aac) (turned 1 listing) (0 ∷ 4 ∷ [])
@@ -446,6 +447,10 @@ examples =
     ∷ occurrences-are (turned 3 aac) (turned 3 listing) (2 ∷ 6 ∷ [])
     ∷ frames-are 0 aac listing (256 ∷ a ∷ c ∷ a ∷ 256 ∷ a ∷ c ∷ a ∷ a ∷ [])
     ∷ frames-are 2 (turned 3 aac) (turned 3 listing) (0x60 ∷ 0x60 ∷ c ∷ 0x60 ∷ 256 ∷ 0x60 ∷ c ∷ 0x60 ∷ 256 ∷ [])
+    ∷ occurrences-are (a ∷ c ∷ []) (c ∷ c ∷ a ∷ c ∷ a ∷ []) (2 ∷ 4 ∷ [])
+    ∷ occurrences-are (turned 2 (a ∷ c ∷ [])) (turned 2 (c ∷ c ∷ a ∷ c ∷ a ∷ [])) (1 ∷ 4 ∷ [])
+    ∷ occurrences-are aacaa aac (0 ∷ [])
+    ∷ occurrences-are (turned 2 aacaa) (turned 2 aac) (1 ∷ [])
     ∷ [])
     -- The turned motif and chain go into buffers of m and n entries, under 7. Turned away: 8, a way above 3, tested before all else
     ∷ row 20
@@ -470,15 +475,15 @@ examples =
     ∷ row 21
     (frames-are 2 aacaa listing listing-frames
     ∷ restoring-leaves 2 aacaa listing-frames (replicate 10 1) (a ∷ a ∷ c ∷ a ∷ a ∷ a ∷ c ∷ a ∷ a ∷ 1 ∷ []) (zeros-beside 0)
-    ∷ restoring-leaves 1 aaaa (a ∷ 256 ∷ 256 ∷ 256 ∷ a ∷ a ∷ []) (replicate 6 1) (replicate 6 a) (zeros-beside 0)
+    ∷ restoring-leaves 1 aaaa (replicate 6 256) (replicate 6 1) (replicate 6 a) (zeros-beside 0)
     ∷ restoring-leaves 0 (c ∷ []) (0xFF ∷ 0 ∷ 256 ∷ []) (replicate 3 1) (0xFF ∷ 0 ∷ c ∷ []) (zeros-beside 0)
     ∷ restoring-leaves 0 aac [] (1 ∷ []) (1 ∷ []) (zeros-beside 0)
-    ∷ restoring-gives 0 aaaa (256 ∷ 256 ∷ 256 ∷ a ∷ a ∷ a ∷ []) 6 0
-    ∷ restoring-gives 3 aaaa (a ∷ a ∷ a ∷ 256 ∷ 256 ∷ 256 ∷ []) 6 0
-    ∷ restoring-gives 1 (a ∷ a ∷ []) (a ∷ []) 1 0
+    ∷ restoring-gives 3 aaaa (replicate 4 256) 4 0
+    ∷ restoring-gives 0 aaaa (a ∷ c ∷ a ∷ a ∷ []) 4 0
+    ∷ restoring-gives 1 (a ∷ a ∷ []) (256 ∷ []) 1 0
     ∷ [])
-    -- Turned away: 9, frames that are no conversion under this motif and q: a hold without a find, where a find could have its hold and where none
-    -- could; a find without its hold; the holds of another q; numbers that are neither a move nor a hold. The buffer stays as it was
+    -- Turned away: 9, frames that are no conversion under this motif and q: a hold without a find; a find without its hold, also over the seam; the
+    -- holds of another q; numbers that are neither a move nor a hold. The buffer stays as it was
     ∷ row 22
     (restoring-gives 2 aacaa (256 ∷ a ∷ 256 ∷ a ∷ a ∷ a ∷ 256 ∷ a ∷ a ∷ []) 9 9
     ∷ restoring-gives 2 aacaa (a ∷ a ∷ 256 ∷ 256 ∷ a ∷ a ∷ 256 ∷ a ∷ a ∷ []) 9 9
@@ -486,7 +491,8 @@ examples =
     ∷ restoring-gives 2 aacaa (a ∷ a ∷ 256 ∷ a ∷ a ∷ a ∷ c ∷ a ∷ a ∷ []) 9 9
     ∷ restoring-gives 2 aacaa listing 9 9
     ∷ restoring-gives 1 aacaa listing-frames 9 9
-    ∷ restoring-gives 1 (a ∷ a ∷ []) (256 ∷ []) 1 9
+    ∷ restoring-gives 1 (a ∷ a ∷ []) (a ∷ []) 1 9
+    ∷ restoring-gives 0 aaaa (256 ∷ 256 ∷ 256 ∷ a ∷ a ∷ a ∷ []) 6 9
     ∷ restoring-gives 0 (a ∷ []) (512 ∷ []) 1 9
     ∷ restoring-gives 0 (a ∷ []) (65535 ∷ []) 1 9
     ∷ restoring-leaves 0 aac (256 ∷ a ∷ a ∷ []) (1 ∷ 2 ∷ 3 ∷ []) (1 ∷ 2 ∷ 3 ∷ []) (zeros-beside 9)
@@ -507,7 +513,8 @@ examples =
     ∷ restoring-gives 0 (a ∷ []) (256 ∷ c ∷ []) 2 0
     ∷ restoring-gives 0 (a ∷ []) (replicate 16384 257) 16383 7
     ∷ restoring-gives 4294967295 (a ∷ []) (257 ∷ []) 0 5
-    ∷ restoring-gives 127 (replicate 128 a) (256 ∷ []) 1 9
+    ∷ restoring-gives 127 (replicate 128 a) (256 ∷ []) 1 0
+    ∷ restoring-gives 127 (replicate 128 a) (a ∷ []) 1 9
     ∷ [])
     -- Document 02, "The card cutter's tariff": prices in pence for 0 to 8 holes are 3, 5, 6, 8, 9, 11, 12, 14, 15; a hold adds 40 to its card. The
     -- listing in document 01 costs 134
@@ -525,7 +532,7 @@ examples =
     ∷ job-costs 0 aac (0x00 ∷ 0x01 ∷ 0x03 ∷ 0x07 ∷ 0x0F ∷ 0x1F ∷ 0x3F ∷ 0x7F ∷ 0xFF ∷ []) 83
     ∷ job-costs 0 (0x00 ∷ []) (0x00 ∷ []) 43
     ∷ job-costs 0 (0xFF ∷ []) (0x00 ∷ 0xFF ∷ []) 58
-    ∷ job-costs 3 aaaa (replicate 6 a) 156
+    ∷ job-costs 3 aaaa (replicate 6 a) 276
     ∷ job-costs 0 aac [] 0
     ∷ [])
     -- Above 4,096 cards a rebate of 5 in 100 of the total, rounded down to a penny, comes off: of the total with its holds
@@ -575,26 +582,26 @@ examples =
     ∷ word-is (0x80 ∷ []) 0x80
     ∷ ones-are (0x01 ∷ 0x02 ∷ 0x03 ∷ 0x04 ∷ 0x05 ∷ 0x06 ∷ 0x07 ∷ 0x08 ∷ 0x09 ∷ []) 15
     ∷ [])
-    -- Document 02, "Write out the period and the bound": searching and converting work out p and the bound, preparing only p. The bound is 0 for n
-    -- below m, where p is given too. A job turned away has zeros there. For m at least 3 × p the bound is that of "Long repeats"
+    -- Document 02, "Write out the period and the bound": searching and converting work out p and the bound, preparing only p. The bound is 0 for
+    -- an empty chain alone, where p is given too. A job turned away has zeros there. For m at least 3 × p the bound is that of "Long repeats"
     ∷ row 28
     (answers-are (answered 0 (prepare-done cbaaa)) (answer 0 0 0 0 5 0)
     ∷ answers-are (answered 4 (prepare-done [])) (zeros-beside 4)
-    ∷ answers-are (answered 0 (search-done aaaa (replicate 6 a))) (answer 0 3 6 0 1 8)
-    ∷ answers-are (answered 0 (search-done cbaaa cbaaa)) (answer 0 1 5 0 5 5)
-    ∷ answers-are (answered 0 (search-done aaaa (replicate 3 a))) (answer 0 0 0 0 1 0)
+    ∷ answers-are (answered 0 (search-done aaaa (replicate 6 a))) (answer 0 6 9 0 1 14)
+    ∷ answers-are (answered 0 (search-done cbaaa cbaaa)) (answer 0 1 5 0 5 13)
+    ∷ answers-are (answered 0 (search-done aaaa (replicate 3 a))) (answer 0 3 6 0 1 8)
     ∷ answers-are (answered 0 (convert-done aacaa [])) (answer 0 0 0 0 3 0)
-    ∷ answers-are (answered 0 (convert-done aacaa (a ∷ a ∷ c ∷ a ∷ []))) (answer 0 0 0 8 3 0)
+    ∷ answers-are (answered 0 (convert-done aacaa (a ∷ a ∷ c ∷ a ∷ []))) (answer 0 1 7 8 3 11)
     ∷ answers-are (answered 6 (search-done aacaa listing)) (zeros-beside 6)
-    ∷ bound-is (a ∷ a ∷ []) (replicate 5 c) 8
-    ∷ bound-is (a ∷ a ∷ []) (replicate 5 a) 8
-    ∷ bound-is (a ∷ a ∷ a ∷ []) (replicate 5 c) 7
-    ∷ bound-is (a ∷ a ∷ a ∷ []) (replicate 5 a) 7
-    ∷ bound-is (a ∷ a ∷ a ∷ []) (replicate 3 a) 3
-    ∷ bound-is (a ∷ a ∷ a ∷ []) (a ∷ a ∷ c ∷ []) 3
+    ∷ bound-is (a ∷ a ∷ []) (replicate 5 c) 10
+    ∷ bound-is (a ∷ a ∷ []) (replicate 5 a) 10
+    ∷ bound-is (a ∷ a ∷ a ∷ []) (replicate 5 c) 11
+    ∷ bound-is (a ∷ a ∷ a ∷ []) (replicate 5 a) 11
+    ∷ bound-is (a ∷ a ∷ a ∷ []) (replicate 3 a) 7
+    ∷ bound-is (a ∷ a ∷ a ∷ []) (a ∷ a ∷ c ∷ []) 7
     ∷ bound-is (c ∷ []) cac 5
-    ∷ bound-is acaca (a ∷ c ∷ acaca) 11
-    ∷ bound-is acaca (replicate 7 a) 9
+    ∷ bound-is acaca (a ∷ c ∷ acaca) 19
+    ∷ bound-is acaca (replicate 7 a) 17
     ∷ seek-prints "0105020000\n06\n06\n18\n06\n06\n" "0000\n00000000\n00000000\n0003\n00000000\n"
     ∷ [])
     -- The answers of whole calls with what they leave, done and refused: what a call does not work out is 0 in each. A buffer that is filled has an
@@ -623,8 +630,8 @@ examples =
     (period-is aacaacaacaa 3
     ∷ stored-Δ3-is aacaacaacaa (replicate 8 0 ++ (9 ∷ 7 ∷ 0 ∷ []))
     ∷ occurrences-are aacaacaacaa two-sharing-one (0 ∷ 10 ∷ [])
-    ∷ comparisons-are aacaacaacaa two-sharing-one 24
-    ∷ bound-is aacaacaacaa two-sharing-one 31
+    ∷ comparisons-are aacaacaacaa two-sharing-one 25
+    ∷ bound-is aacaacaacaa two-sharing-one 51
     ∷ [])
     -- Δ3(i) goes into entry i of a lent buffer of m entries, under 7, with 0 wherever it is not defined; it is defined for i from m - p to m - 2
     -- where m is at least 3 × p
@@ -643,27 +650,29 @@ examples =
     -- Where m is at least 3 × p, a find moves on by p and only places m - 1 down to m - p are looked at. If m - 1 differs, the shift is Δ1(card, p);
     -- if a lower place does, Δ3; the ordinary steps go on with that shift as s. Shorter motifs are looked at whole
     ∷ row 32
-    (answers-are (answered 0 (search-done acacac (a ∷ c ∷ a ∷ c ∷ acacac))) (answer 0 3 10 0 2 14)
-    ∷ occurrences-are acacac (acacac ++ (c ∷ acacac)) (0 ∷ 7 ∷ [])
-    ∷ answers-are (answered 0 (search-done acacac (acacac ++ (c ∷ acacac)))) (answer 0 2 13 0 2 20)
-    ∷ answers-are (answered 0 (search-done acacac (acacac ++ (a ∷ a ∷ acacac)))) (answer 0 2 14 0 2 22)
-    ∷ occurrences-are acacac (acacac ++ (c ∷ c ∷ a ∷ acacac)) (0 ∷ 9 ∷ [])
-    ∷ answers-are (answered 0 (search-done acacac (acacac ++ (c ∷ c ∷ a ∷ acacac)))) (answer 0 2 15 0 2 24)
-    ∷ answers-are (answered 0 (search-done (a ∷ a ∷ a ∷ []) (a ∷ a ∷ a ∷ c ∷ a ∷ a ∷ a ∷ []))) (answer 0 2 7 0 1 11)
-    ∷ comparisons-are (a ∷ a ∷ a ∷ []) (replicate 5 a) 5
-    ∷ comparisons-are (a ∷ a ∷ []) (replicate 5 a) 8
-    ∷ comparisons-are acaca (a ∷ c ∷ acaca) 10
-    ∷ seek-prints "0103000005\n06\n06\n06\n06\n06\n06\n06\n06\n" "0003\n00000005\n0000000A\n0001\n00000007\n0000\n0001\n0002\n0100\n0100\n0100\n0006\n0006\n"
+    (answers-are (answered 0 (search-done acacac (a ∷ c ∷ a ∷ c ∷ acacac))) (answer 0 5 14 0 2 24)
+    ∷ occurrences-are acacac (acacac ++ (c ∷ acacac)) (0 ∷ 7 ∷ 9 ∷ 11 ∷ [])
+    ∷ answers-are (answered 0 (search-done acacac (acacac ++ (c ∷ acacac)))) (answer 0 4 17 0 2 30)
+    ∷ answers-are (answered 0 (search-done acacac (acacac ++ (a ∷ a ∷ acacac)))) (answer 0 4 18 0 2 32)
+    ∷ occurrences-are acacac (acacac ++ (c ∷ c ∷ a ∷ acacac)) (0 ∷ 9 ∷ 11 ∷ 13 ∷ [])
+    ∷ answers-are (answered 0 (search-done acacac (acacac ++ (c ∷ c ∷ a ∷ acacac)))) (answer 0 4 19 0 2 34)
+    ∷ answers-are (answered 0 (search-done (a ∷ a ∷ a ∷ []) (a ∷ a ∷ a ∷ c ∷ a ∷ a ∷ a ∷ []))) (answer 0 4 9 0 1 15)
+    ∷ comparisons-are (a ∷ a ∷ a ∷ []) (replicate 5 a) 7
+    ∷ comparisons-are (a ∷ a ∷ []) (replicate 5 a) 10
+    ∷ comparisons-are acaca (a ∷ c ∷ acaca) 11
+    ∷ seek-prints "0103000005\n06\n06\n06\n06\n06\n06\n06\n06\n" "0005\n00000007\n0000000A\n0001\n0000000B\n0000\n0001\n0002\n0003\n0004\n0100\n0100\n0100\n0100\n0100\n"
     ∷ [])
     -- The looks themselves, in their order: after a find only m - 1 down to m - p. Each shift is the s of the next step, out of a repeat (Δ1 and
     -- Δ3) and in the ordinary steps (after a find, Δ2 and Δ1)
     ∷ row 33
     (comparisons-in-order (aac ++ aac ++ aac) (aac ++ aac ++ aac ++ aac)
-    (pair 8 8 ∷ pair 0 0 ∷ pair 1 1 ∷ pair 2 2 ∷ pair 3 3 ∷ pair 4 4 ∷ pair 5 5 ∷ pair 6 6 ∷ pair 7 7 ∷ pair 8 11 ∷ pair 7 10 ∷ pair 6 9 ∷ [])
-    ∷ comparisons-in-order acaca (replicate 6 a ++ (c ∷ a ∷ a ∷ c ∷ a ∷ [])) (pair 4 4 ∷ pair 0 0 ∷ pair 1 1 ∷ pair 4 6 ∷ pair 4 9 ∷ [])
+    (pair 8 8 ∷ pair 0 0 ∷ pair 1 1 ∷ pair 2 2 ∷ pair 3 3 ∷ pair 4 4 ∷ pair 5 5 ∷ pair 6 6 ∷ pair 7 7
+    ∷ pair 8 11 ∷ pair 7 10 ∷ pair 6 9 ∷ pair 8 14 ∷ pair 7 13 ∷ pair 6 12 ∷ pair 8 17 ∷ pair 7 16 ∷ pair 6 15 ∷ [])
+    ∷ comparisons-in-order acaca (replicate 6 a ++ (c ∷ a ∷ a ∷ c ∷ a ∷ []))
+    (pair 4 4 ∷ pair 0 0 ∷ pair 1 1 ∷ pair 4 6 ∷ pair 4 9 ∷ pair 4 12 ∷ pair 0 8 ∷ pair 1 9 ∷ pair 2 10 ∷ pair 3 11 ∷ [])
     ∷ answers-are (answered 0 (search-done acaacaacaac (acaacaacaac ++ (a ∷ a ∷ acaacaacaac) ++ (c ∷ a ∷ c ∷ acaacaacaac))))
-    (answer 0 3 39 0 3 65)
-    ∷ comparisons-are acaca (acaca ++ (a ∷ c ∷ replicate 6 a) ++ (c ∷ c ∷ a ∷ [])) 13
+    (answer 0 3 40 0 3 85)
+    ∷ comparisons-are acaca (acaca ++ (a ∷ c ∷ replicate 6 a) ++ (c ∷ c ∷ a ∷ [])) 14
     ∷ stored-Δ3-is accaaccaaccaacc (replicate 11 0 ++ (12 ∷ 15 ∷ 13 ∷ 0 ∷ []))
     ∷ [])
     -- Document 02, "The longest honest step": for c b a a a, Δ2(3) is 5, so that nothing is looked at from place 2 on. A shift may be longer than p
@@ -672,7 +681,7 @@ examples =
     (pair 4 4 ∷ pair 2 2 ∷ pair 3 3 ∷ pair 4 9 ∷ pair 2 7 ∷ pair 3 8 ∷ pair 0 5 ∷ pair 1 6 ∷ [])
     ∷ period-is aabbaaa 5
     ∷ Δ2-from-2-is aabbaaa (1 ∷ 6 ∷ replicate 5 5)
-    ∷ comparisons-are aabbaaa (a ∷ a ∷ b ∷ b ∷ a ∷ b ∷ a ∷ aabbaaa) 12
+    ∷ comparisons-are aabbaaa (a ∷ a ∷ b ∷ b ∷ a ∷ b ∷ a ∷ aabbaaa) 15
     ∷ Δ2-from-2-is (a ∷ b ∷ a ∷ b ∷ replicate 5 a) (1 ∷ 2 ∷ 8 ∷ 6 ∷ replicate 5 8)
     ∷ Δ2-from-2-is (b ∷ a ∷ b ∷ a ∷ b ∷ a ∷ b ∷ []) (2 ∷ 2 ∷ 4 ∷ 4 ∷ 6 ∷ 6 ∷ 2 ∷ [])
     ∷ [])
@@ -684,6 +693,10 @@ examples =
     ∷ explanation-is aacaa listing 2 (PassedOver 0 2 AfterOccurrence)
     ∷ explanation-is aacaa listing 3 (Tried 3)
     ∷ explanation-is aacaa listing 4 Listed
+    ∷ explanation-is aacaa listing 5 (PassedOver 4 2 AfterOccurrence)
+    ∷ explanation-is aacaa listing 6 (PassedOver 4 0 AfterOccurrence)
+    ∷ explanation-is aacaa listing 7 (Tried 4)
+    ∷ explanation-is aacaa listing 8 (PassedOver 7 3 LastByte)
     ∷ explanation-is (a ∷ c ∷ []) (a ∷ b ∷ a ∷ c ∷ []) 0 (Tried 1)
     ∷ explanation-is (a ∷ c ∷ []) (a ∷ b ∷ a ∷ c ∷ []) 1 (PassedOver 0 0 LastByte)
     ∷ explanation-is cbaaa (c ∷ c ∷ a ∷ b ∷ a ∷ cbaaa) 1 (PassedOver 0 1 Order)
@@ -699,7 +712,7 @@ examples =
     ∷ explanation-is (a ∷ c ∷ a ∷ []) (a ∷ c ∷ c ∷ a ∷ a ∷ []) 2 (PassedOver 1 0 Order)
     ∷ explanation-is (c ∷ a ∷ a ∷ []) (a ∷ c ∷ a ∷ a ∷ a ∷ []) 2 (PassedOver 1 0 AfterOccurrence)
     ∷ [])
-    -- The numbers of each case and kind. Turned away by 10 where b + m is above n, after 4 to 7; whole calls, and what they leave
+    -- The numbers of each case and kind. Turned away by 10 where b is n or more, after 4 to 7; whole calls, and what they leave
     ∷ row 36
     (numbers-are Listed (explain-answered 0 1 0 0 0)
     ∷ numbers-are (Tried 3) (explain-answered 0 2 3 0 0)
@@ -707,22 +720,51 @@ examples =
     ∷ numbers-are (PassedOver 7 5 Order) (explain-answered 0 3 5 7 2)
     ∷ numbers-are (PassedOver 7 5 AfterOccurrence) (explain-answered 0 3 5 7 3)
     ∷ numbers-are (PassedOver 7 5 LongRepeat) (explain-answered 0 3 5 7 4)
-    ∷ explaining-gives 5 9 4 (needed 5) 0
-    ∷ explaining-gives 5 9 5 (needed 5) 10
-    ∷ explaining-gives 5 4 0 (needed 5) 10
+    ∷ explaining-gives 5 9 8 (needed 5) 0
+    ∷ explaining-gives 5 9 9 (needed 5) 10
+    ∷ explaining-gives 5 1 0 (needed 5) 0
+    ∷ explaining-gives 5 0 0 (needed 5) 10
     ∷ explaining-gives 5 9 0xFFFFFFFF (needed 5) 10
     ∷ explaining-gives 0 16385 0 no-room 4
     ∷ explaining-gives 129 9 9 no-room 4
-    ∷ explaining-gives 5 16385 16384 no-room 6
-    ∷ explaining-gives 5 16384 16379 (needed 5) 0
-    ∷ explaining-gives 5 9 5 (room 5 6 1280 5) 7
-    ∷ explaining-gives 5 9 5 (room 6 5 1280 5) 7
-    ∷ explaining-gives 5 9 5 (room 6 6 1279 5) 7
-    ∷ explaining-gives 5 9 5 (room 6 6 1280 4) 7
+    ∷ explaining-gives 5 16385 16385 no-room 6
+    ∷ explaining-gives 5 16384 16383 (needed 5) 0
+    ∷ explaining-gives 5 9 9 (room 5 6 1280 5) 7
+    ∷ explaining-gives 5 9 9 (room 6 5 1280 5) 7
+    ∷ explaining-gives 5 9 9 (room 6 6 1279 5) 7
+    ∷ explaining-gives 5 9 9 (room 6 6 1280 4) 7
     ∷ explaining-leaves 2 (c ∷ []) cac lent-to-one left-by-one (explain-answered 0 1 0 0 0)
     ∷ explaining-leaves 1 (c ∷ []) cac lent-to-one left-by-one (explain-answered 0 2 0 0 0)
     ∷ explaining-leaves 1 (a ∷ c ∷ []) (a ∷ b ∷ a ∷ c ∷ []) (lent (room 4 4 513 3)) left-by-ac (explain-answered 0 3 0 0 1)
     ∷ explaining-leaves 3 (c ∷ []) cac lent-to-one lent-to-one (explain-answered 10 0 0 0 0)
+    ∷ [])
+    -- Document 02, "Chains are laced into a ring": chain place x shows card x modulo n, for x up to n + m - 2, and the hold goes to (b + q) modulo n,
+    -- also where n is below m; the holds need not be in the order of the finds. Put back, as whole calls, and explained over the seam
+    ∷ row 37
+    (comparisons-in-order aacaa listing
+    (pair 4 4 ∷ pair 3 3 ∷ pair 0 0 ∷ pair 1 1 ∷ pair 2 2 ∷ pair 4 7 ∷ pair 3 6 ∷ pair 4 8 ∷ pair 3 7 ∷ pair 0 4 ∷ pair 1 5 ∷ pair 2 6 ∷ pair 4 11 ∷ [])
+    ∷ occurrences-are aac (c ∷ a ∷ a ∷ []) (1 ∷ [])
+    ∷ frames-are 1 aac (c ∷ a ∷ a ∷ []) (c ∷ a ∷ 256 ∷ [])
+    ∷ frames-are 2 aac (c ∷ a ∷ a ∷ []) (256 ∷ a ∷ a ∷ [])
+    ∷ occurrences-are acaca (c ∷ a ∷ []) (1 ∷ [])
+    ∷ occurrences-are acaca (a ∷ []) []
+    ∷ frames-are 4 acaca (a ∷ c ∷ []) (256 ∷ c ∷ [])
+    ∷ frames-are 1 (a ∷ c ∷ []) (c ∷ a ∷ c ∷ a ∷ []) (256 ∷ a ∷ 256 ∷ a ∷ [])
+    ∷ seek-prints "0102010002\n06\n18\n18\n06\n" "0001\n00000003\n00000004\n0002\n00000004\n0001\n0100\n0006\n"
+    ∷ job-costs 2 aac (c ∷ a ∷ a ∷ []) 58
+    ∷ job-costs 3 aaaa (a ∷ []) 46
+    ∷ restoring-leaves 2 aac (256 ∷ a ∷ a ∷ []) (replicate 4 1) (c ∷ a ∷ a ∷ 1 ∷ []) (zeros-beside 0)
+    ∷ restoring-leaves 2 aac (c ∷ a ∷ a ∷ []) (replicate 3 1) (replicate 3 1) (zeros-beside 9)
+    ∷ restoring-gives 2 aac (a ∷ a ∷ 256 ∷ []) 3 0
+    ∷ converting-leaves 1 (a ∷ c ∷ []) (c ∷ a ∷ []) (lent (room 4 4 513 3)) left-by-ac (replicate 3 9) (1 ∷ 9 ∷ 9 ∷ []) (replicate 3 9)
+    (256 ∷ a ∷ 9 ∷ []) (answer 0 1 3 4 2 4)
+    ∷ searching-leaves (a ∷ c ∷ []) (c ∷ a ∷ []) (lent (room 4 4 513 3)) left-by-ac (replicate 3 9) (1 ∷ 9 ∷ 9 ∷ []) (answer 0 1 3 0 2 4)
+    ∷ pricing-leaves 1 (a ∷ c ∷ []) (c ∷ a ∷ []) (lent (room 4 4 513 3)) left-by-ac (replicate 3 9) (1 ∷ 9 ∷ 9 ∷ []) (price-answered 0 52)
+    ∷ explaining-leaves 1 (a ∷ c ∷ []) (c ∷ a ∷ []) (lent (room 4 4 513 3)) left-by-ac (explain-answered 0 1 0 0 0)
+    ∷ explanation-is aaaa (aaaa ++ (c ∷ [])) 1 (Tried 3)
+    ∷ explanation-is aaaa (aaaa ++ (c ∷ [])) 4 (PassedOver 1 0 LongRepeat)
+    ∷ explanation-is (a ∷ c ∷ a ∷ []) (a ∷ c ∷ c ∷ []) 2 (PassedOver 1 0 Order)
+    ∷ explanation-is acaca (c ∷ a ∷ []) 0 (Tried 4)
     ∷ [])
     ∷ []
 

@@ -1,16 +1,17 @@
 -- `alignments::agreeing` meets its contract. The loop over the comparisons keeps that those before it agreed, and each turn adds one or ends.
 -- The measure is what is left of the row. Assumes nothing.
-use mathlib.Core.Path.{_≡_, sym}
+use mathlib.Core.Path.{_≡_, sym, _∙_}
 use Prim.Native.Nat.{ℕ, _+_, _-_, _≤_, _<_}
 use native.Mathlib.Omega.{arith}
 use lib.ListN.{length, getD}
 use Rattle.steps.proofs.Rows.{row-first, row-some, row-few, row-below}
-use Rattle.steps.proofs.Text.{span-length}
+use Rattle.steps.proofs.Text.{shown-byte, span-reaches}
 use Rattle.alignments.proofs.Shifts.{pattern-taken}
 use Rattle.alignments.proofs.Along.{Along, along-none, along-more, along-stop, along-all}
 use Rattle.alignments.proofs.agreeing.Statement.{statement}
 use Rattle.alignments.proofs.agreeing.Tie as tie
 use Rattle.steps.specs.Steps.{row}
+use Rattle.steps.specs.Text.{span}
 
 abbrev Inv-loop : tie.InvT-loop
 Inv-loop pattern text order p here b last count i₀ i = Along pattern text b (row pattern (here .repeat)) i
@@ -48,13 +49,19 @@ small :
     × (1 ≤ length (a .pattern .now))
 small c =
     let a = c .args in
-    let (ready, laid) = c .pre in
+    let (ready, inside) = c .pre in
     let some = ready .taken .some in (
-      omega (arith, laid .inside, span-length (a .pattern .now) (a .text .now)),
+      inside,
       ready .taken .text,
       omega (arith, row-few (a .pattern .now) (a .here .repeat) some, ready .taken .few),
       some,
     )
+
+-- the alignment is shown whole
+shown-whole : (c : tie.Start Inv-loop μ-loop) → let a = c .args in a .here .position + length (a .pattern .now) ≤ span (a .pattern .now) (a .text .now)
+shown-whole c =
+    let a = c .args in
+    span-reaches (a .pattern .now) (a .text .now) (small c .3) (a .here .position) (omega (arith, small c))
 
 -- the first comparison is that of the row's first entry
 module _ (c : First) where
@@ -101,14 +108,14 @@ agreeing-spec =
     (λ c.
     let d = c .before in
     record {
-      inside = begin d .pre .1 .inside;
-      count = along-stop _ _ _ _ (along-none _ _ _ _) (some-entry d) (first-entry d) (first-in-text d) (c .if1 .taken);
+      inside = shown-whole (begin d);
+      count = along-stop _ _ _ _ (along-none _ _ _ _) (some-entry d) (first-entry d) (λ e. c .if1 .taken (e ∙ shown-byte _ _ (first-in-text d)));
     })
     (λ c κs. let ready = begin (c .before) .pre .0 in (pattern-taken (ready .taken), ready .period-is))
     (λ c.
     let e = c .before in
     let d = e .before in
-    along-more _ _ _ _ (along-none _ _ _ _) (some-entry d) (first-entry d) (first-in-text d) (e .if1 .left))
+    along-more _ _ _ _ (along-none _ _ _ _) (some-entry d) (first-entry d) (e .if1 .left ∙ sym (shown-byte _ _ (first-in-text d))))
     (λ c κs.
     let ready = start (c .before) .pre .0 in
     (pattern-taken (ready .taken), (ready .order-ready, omega (arith, c .loop-test .taken, count-is (c .before)))))
@@ -117,13 +124,16 @@ agreeing-spec =
     (λ c. in-text (c .before .before))
     (λ c.
     let e = c .before .before .before in
-    record { inside = start (turn e) .pre .1 .inside; count = along-stop _ _ _ _ (turn e .loop .inv) (in-row e) (at-is e) (in-text e) (c .if2 .taken) })
+    record {
+      inside = shown-whole (start (turn e));
+      count = along-stop _ _ _ _ (turn e .loop .inv) (in-row e) (at-is e) (λ same. c .if2 .taken (same ∙ shown-byte _ _ (in-text e)));
+    })
     (λ c. let e = c .before .before .before in omega (arith, in-row e, small (start (turn e))))
     (λ c. omega (arith, c .before .before .before .before .loop-test .taken))
-    (λ c. let e = c .before .before .before in along-more _ _ _ _ (turn e .loop .inv) (in-row e) (at-is e) (in-text e) (c .if2 .left))
+    (λ c. let e = c .before .before .before in along-more _ _ _ _ (turn e .loop .inv) (in-row e) (at-is e) (c .if2 .left ∙ sym (shown-byte _ _ (in-text e))))
     (λ c.
     let t = c .before in
     record {
-      inside = start t .pre .1 .inside;
+      inside = shown-whole (start t);
       count = along-all _ _ _ _ (t .loop .inv) (omega (arith, c .loop-test .left, t .loop .inv .within, count-is t));
     }))

@@ -4,7 +4,7 @@ use native.Mathlib.Omega.{arith}
 use borrow.Author.Needs.{needs}
 use Rattle.tables.proofs.Periods.{period-facts}
 use Rattle.steps.proofs.Fuel.{shift-within}
-use Rattle.steps.proofs.Text.{span-length}
+use Rattle.steps.proofs.Text.{span-ends}
 use Rattle.steps.specs.Text.{shown}
 use Rattle.alignments.proofs.Shifts.{laid-so}
 use Rattle.alignments.proofs.laid_after.Statement.{statement}
@@ -25,7 +25,7 @@ small c =
     let (ready, (laid, ended)) = d .pre in
     let some = ready .taken .some in
     let within = shift-within (shown (a .text .now)) w (a .here .position) (a .here .shift) (a .here .repeat) some (laid .positive) (laid .within) in (
-      omega (arith, laid .inside, span-length w (a .text .now), ready .taken .text),
+      omega (arith, span-ends w (a .text .now) some (a .here .position) (laid .inside), ready .taken .text),
       omega (arith, c .shift-of .ensures, within, ready .taken .few),
       omega (arith, ready .period-is, period-facts w some .within, ready .taken .few),
     )

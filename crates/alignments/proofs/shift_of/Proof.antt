@@ -65,7 +65,7 @@ first c =
     let d = start (t .before .before) in
     let a = d .args in
     let (ready, (laid, ended)) = d .pre in
-    c .first-shift .ensures
+    c .first-shift-around .ensures
     ∙ sym (step-shift-first (shown (a .text .now)) (a .pattern .now) (a .here .position) (a .here .shift) (a .here .repeat)
     (sym (ended .count) ∙ t .if3 .taken))
 

@@ -1,138 +1,146 @@
--- `conversions::holds_match` meets its contract. The loop's invariant: the frames before i + first are walked over.
--- The measure is what is left of the frames. Assumes nothing.
-use mathlib.Core.Logic.{⊎-elim}
+-- `conversions::holds_match` meets its contract. The loop's invariant: the positions before b are walked over, and b is at most `inside`.
+-- The measure is what is left up to that. Assumes nothing.
+use mathlib.Core.List.{List}
 use mathlib.Core.Path.{_≡_, sym, _∙_}
 use Prim.Native.Nat.{ℕ, _+_, _-_, _≤_, _<_}
-use native.Mathlib.Nat.{zero-add, suc-add}
+use native.Mathlib.Nat.{mod-eq-of-lt}
 use native.Mathlib.Numerals.{add-one}
 use native.Mathlib.Omega.{arith}
-use borrow.Author.Tests.{lt-ltb, le-ltb, eq-eqb, ne-eqb}
-use lib.Dec.{ltb, eqb}
-use lib.ListN.{length}
-use Rattle.tables.proofs.Cases.{eq-or-ne, unequal, equal}
+use lib.ListN.{length, take, drop, getD, length-take, length-drop}
+use lib.Seq.{getD-take, getD-drop}
+use Rattle.tables.proofs.Cases.{unequal, equal}
 use Rattle.tables.specs.Sets.{byte}
 use Rattle.frames.specs.Frames.{hold}
 use Rattle.prefixes.proofs.Walk.{prefix-within}
-use Rattle.conversions.proofs.Walked.{after, Walked, walked-first, walked-on, wrong-fails, walked-all}
+use Rattle.conversions.proofs.Walked.{frame-around, walked-first, walked-on, wrong-fails}
 use Rattle.conversions.proofs.holds_match.Statement.{statement}
 use Rattle.conversions.proofs.holds_match.Tie as tie
-use Rattle.conversions.specs.Restored.{restored}
+use Rattle.conversions.specs.Walk.{frame-at, Walked}
 
 abbrev Inv-loop : tie.InvT-loop
-Inv-loop hold-offset pattern links frames held last n after first prefix₀ i₀ i-end prefix i =
-    (i + first ≤ n) × Walked hold-offset pattern frames (i + first) prefix
+Inv-loop hold-offset pattern links frames held last prefix₀ holds ends inside b₀ prefix b = (b ≤ inside) × Walked hold-offset pattern frames b prefix
 
 abbrev μ-loop : tie.MeasureT-loop
-μ-loop hold-offset pattern links frames held last n after first prefix₀ i₀ i-end prefix i = length frames - i
+μ-loop hold-offset pattern links frames held last prefix₀ holds ends inside b₀ prefix b = inside - b
 
--- a prefix is longer than the pattern's last position just where it is the whole pattern
-whole : (m prefix : ℕ) → 1 ≤ m → prefix ≤ m → ltb (m - 1) prefix ≡ eqb prefix m
-whole m prefix some few =
-    ⊎-elim
-    (λ e. lt-ltb (m - 1) prefix (omega arith) ∙ sym (eq-eqb prefix m e))
-    (λ d. le-ltb (m - 1) prefix (omega arith) ∙ sym (ne-eqb prefix m d))
-    (eq-or-ne prefix m)
+-- the frames from k on: how many they are, and where the ring has them
+module _ (gs : List ℕ) (k : ℕ) where
+  abbrev from : List ℕ
+  from = take (length gs - k) (drop k gs)
 
--- the frames before any whose pattern can end: as many as follow a hold in its pattern, or all where there are fewer
-record First (after n first : ℕ) : Type 0 where
-  few : first ≤ after
-  inside : first ≤ n
-  rest : n - first ≡ n - after
-  whole : first < n → first ≡ after
+  length-from : length from ≡ length gs - k
+  length-from = rw (length-take, length-drop) (omega arith)
 
-abbrev started : tie.Joined1 Inv-loop μ-loop → tie.Start Inv-loop μ-loop
-started c = c .before .before .before .before .before
+  from-around : (b : ℕ) → b + k < length gs → getD from b 0 ≡ frame-at gs (b + k)
+  from-around b l =
+      let on : k + b ≡ b + k = omega arith in
+      getD-take (length gs - k) (drop k gs) b 0 (omega arith) ∙ getD-drop k gs b 0 ∙ rw (on, mod-eq-of-lt l)
 
-module _ (c : tie.Joined1 Inv-loop μ-loop) where
-  first-is : First (after (started c .args .hold-offset) (length (started c .args .pattern .now))) (length (started c .args .frames .now)) (c .if1 .first)
-  first-is =
-      ⊎-elim
-      (λ (t, e). record { few = omega arith; inside = omega arith; rest = omega arith; whole = λ l. omega arith })
-      (λ (t, e). record { few = omega arith; inside = omega arith; rest = omega arith; whole = λ l. omega arith })
-      (c .if1 .came)
+-- the places of the code: the loop, where the first positions have been walked, and the function's entry; and the turn of an extended prefix
+abbrev start : tie.After-prefix-after Inv-loop μ-loop → tie.Start Inv-loop μ-loop
+start c = c .before .before .before .before .before
 
-  -- the byte held is one
-  small : byte (started c .args .pattern .now) (started c .args .hold-offset) < hold
-  small = omega (arith, c .before .shared-slice-known4 .given (started c .args .hold-offset))
-
--- the places of the code: the loop, and where a prefix has been extended in it
-abbrev entered : tie.At-loop Inv-loop μ-loop → tie.Joined1 Inv-loop μ-loop
-entered c = c .before .before .before
+abbrev front : tie.At-loop Inv-loop μ-loop → tie.After-prefix-after Inv-loop μ-loop
+front c = c .before .before .before .before
 
 abbrev turn : tie.After-prefix-on Inv-loop μ-loop → tie.In-loop Inv-loop μ-loop
 turn c = c .before .before .before
 
--- in the loop some frames are left, so that the first are as many as follow a hold
+-- in a turn the pattern ends inside the frames, so its hold is inside too
 module _ (c : tie.In-loop Inv-loop μ-loop) where
   abbrev at : tie.At-loop Inv-loop μ-loop
   at = c .before
 
-  inside : at .loop .i + entered at .if1 .first < length (started (entered at) .args .frames .now)
-  inside = omega (arith, first-is (entered at) .inside)
+  abbrev begun : tie.Start Inv-loop μ-loop
+  begun = start (front at)
 
-  here :
-      let args = started (entered at) .args in
-      at .loop .i + after (args .hold-offset) (length (args .pattern .now)) ≡ at .loop .i + entered at .if1 .first
-  here = omega (arith, first-is (entered at) .whole (omega (arith, inside)))
+  abbrev gs : List ℕ
+  gs = begun .args .frames .now
 
--- where a prefix has been extended, it is the whole pattern just where the test says so
-ends :
-    (c : tie.After-prefix-on Inv-loop μ-loop) → let m = length (started (entered (at (turn c))) .args .pattern .now) in
-    ltb (m - 1) (c .prefix-on .result) ≡ eqb (c .prefix-on .result) m
-ends c = whole _ _ (started (entered (at (turn c))) .pre .0 .some) (prefix-within _ _ _ _ (c .prefix-on .ensures))
+  abbrev last : ℕ
+  last = length (begun .args .pattern .now) - 1
 
-loop-holds : tie.Need-loop-holds Inv-loop μ-loop
-unfolding restored
-loop-holds c =
-    let first = first-is (c .before .before) in
-    rw zero-add (first .inside, walked-first _ _ _ (c .before .prefix-after .ensures) (first .few))
+  ends : at .loop .b + last < length gs
+  ends = omega (arith, length-from gs last)
 
-returns : tie.Need-returns Inv-loop μ-loop
-unfolding restored
-returns c =
-    let seen = c .before in
-    let now = turn seen in
-    sym (wrong-fails _ _ _ _ _ _ (at now .loop .inv .1) (inside now) (seen .prefix-on .ensures)
-    (at now .loop .i) (here now) (started (entered (at now)) .pre .1) (small (entered (at now))) (λ e. unequal _ _ (c .if2 .taken) (e ∙ sym (ends seen))))
+  held : at .loop .b + begun .args .hold-offset < length gs
+  held = omega (arith, ends, begun .pre .1 .1)
 
-loop-again : tie.Need-loop-again Inv-loop μ-loop
-unfolding restored
-loop-again c =
-    let seen = c .before in
-    let now = turn seen in
-    let on = walked-on _ _ _ _ _ _ (at now .loop .inv .1) (inside now) (seen .prefix-on .ensures)
-    (at now .loop .i) (here now) (equal _ _ (c .if2 .left) ∙ ends seen) in
-    rw (add-one, suc-add) (inside now, on)
+  end-read : getD (from gs last) (at .loop .b) 0 ≡ frame-at gs (at .loop .b + last)
+  end-read = from-around gs last (at .loop .b) ends
+
+  hold-read : getD (from gs (begun .args .hold-offset)) (at .loop .b) 0 ≡ frame-at gs (at .loop .b + begun .args .hold-offset)
+  hold-read = from-around gs (begun .args .hold-offset) (at .loop .b) held
+
+  -- the byte held is one
+  small : byte (begun .args .pattern .now) (begun .args .hold-offset) < hold
+  small = omega (arith, front at .before .shared-slice-known4 .given (begun .args .hold-offset))
+
+rest-matches-requires : tie.Need-rest-matches-requires Inv-loop μ-loop
+rest-matches-requires c κs =
+    let pre = start (c .before) .pre in
+    (pre .0, (pre .1 .0, (pre .1 .1, walked-first _ _ _ (c .before .prefix-after .ensures))))
+
+prefix-on-requires : tie.Need-prefix-on-requires Inv-loop μ-loop
+prefix-on-requires c κs =
+    let now = c .before .before in
+    let (ready, (some, rest)) = begun now .pre in
+    let low = frame-around (gs now) (ready .frames) some (at now .loop .b + last now) _ (end-read now) in
+    (ready .some, (ready .linked, (low, prefix-within _ _ _ _ (at now .loop .inv .1 .here))))
 
 returns-2 : tie.Need-returns-2 Inv-loop μ-loop
 returns-2 c =
-    let at = c .before .before in
-    let ready = started (entered at) .pre in
-    let first = first-is (entered at) in
-    c .no-hold-from .ensures
-    ∙ sym (walked-all _ _ _ (ready .1) (small (entered at)) _ (first .rest) (at .loop .inv .1) (omega (arith, first .inside)) (ready .0 .frames))
+    let seen = c .before in
+    let now = turn seen in
+    let grown = rw (end-read now) at (seen .prefix-on .ensures) in
+    let differ = rw (hold-read now) at (c .if2 .taken) in
+    let some = begun now .pre .0 .some in
+    sym (wrong-fails _ _ _ some _ _ _ (at now .loop .inv .1) grown (omega (arith, ends now)) (small now) (unequal _ _ differ))
+
+loop-again : tie.Need-loop-again Inv-loop μ-loop
+loop-again c =
+    let seen = c .before in
+    let now = turn seen in
+    let grown = rw (end-read now) at (seen .prefix-on .ensures) in
+    let same = rw (hold-read now) at (c .if2 .left) in
+    rw add-one (omega arith, walked-on _ _ _ (begun now .pre .0 .some) _ _ _ (at now .loop .inv .1) grown (equal _ _ same))
+
+rest-matches-requires-2 : tie.Need-rest-matches-requires-2 Inv-loop μ-loop
+rest-matches-requires-2 c κs =
+    let at = c .before in
+    let begun = start (front at) in
+    let pre = begun .pre in
+    let all : at .loop .b ≡ length (from (begun .args .frames .now) (length (begun .args .pattern .now) - 1)) = omega arith in
+    (pre .0, (pre .1 .0, (pre .1 .1, rw all at (at .loop .inv .1))))
 
 pub holds-match-spec : {M : Type 1} → statement M
-unfolding restored
 holds-match-spec =
     tie.close
     (tie.spec
     Inv-loop
     μ-loop
-    (λ c. c .before .before .before .before .pre .1)
+    (λ c. c .before .before .before .before .pre .1 .1)
+    (λ c. omega arith)
+    (λ c κs. let pre = c .before .before .before .before .pre in (pre .0, pre .1 .0))
+    rest-matches-requires
+    (λ c. c .rest-matches .ensures)
+    (λ c. omega (arith, start (c .before) .pre .1 .1))
+    (λ c. omega (arith, start (c .before) .pre .1 .1))
+    (λ c. omega (arith, start (c .before) .pre .1 .1))
     (λ c. omega arith)
     (λ c. omega arith)
-    (λ c κs. (started c .pre .0, first-is c .inside))
-    (λ c. first-is (c .before .before) .inside)
-    loop-holds
-    (λ c. omega (arith, inside c))
-    (λ c. omega (arith, inside (c .before)))
-    (λ c. omega (arith, inside (c .before .before)))
-    (λ c κs. let now = c .before .before in (started (entered (at now)) .pre .0, (inside now, at now .loop .inv .1 .here)))
-    returns
     (λ c. omega arith)
+    (λ c. omega arith)
+    (λ c. omega arith)
+    (λ c. (omega arith, walked-first _ _ _ (c .before .before .before .prefix-after .ensures)))
+    (λ c. omega (arith, held c))
+    (λ c. let now = c .before in omega (arith, held now, length-from (gs now) (begun now .args .hold-offset)))
+    (λ c. omega (arith, ends (c .before)))
+    (λ c. omega arith)
+    prefix-on-requires
+    returns-2
+    (λ c. omega (arith, ends (turn (c .before))))
     (λ c. omega arith)
     loop-again
-    (λ c. first-is (entered (c .before)) .inside)
-    (λ c κs. tt)
-    returns-2)
+    rest-matches-requires-2
+    (λ c. c .rest-matches2 .ensures))

@@ -6,9 +6,9 @@ use Prim.Native.Nat.{_-_, _≤_}
 use native.Mathlib.Numerals.{add-one}
 use native.Mathlib.Omega.{arith}
 use Rattle.steps.specs.Text.{shown}
-use Rattle.prefixes.proofs.Walk.{prefix-first}
+use Rattle.prefixes.proofs.Walk.{prefix-first, prefix-within}
 use Rattle.prefixes.specs.Prefixes.{longest-prefix}
-use Rattle.conversions.proofs.Walked.{prefix-on}
+use Rattle.conversions.proofs.Walked.{frame-around, prefix-on}
 use Rattle.conversions.proofs.prefix_after.Statement.{statement}
 use Rattle.conversions.proofs.prefix_after.Tie as tie
 use Rattle.conversions.specs.Restored.{restored-byte}
@@ -24,8 +24,19 @@ abbrev μ-loop : tie.MeasureT-loop
 abbrev start : tie.At-loop Inv-loop μ-loop → tie.Start Inv-loop μ-loop
 start c = c .before .before .before .before
 
+prefix-on-requires : tie.Need-prefix-on-requires Inv-loop μ-loop
+prefix-on-requires c κs =
+    let at = c .before .before in
+    let (ready, some) = start at .pre in
+    (ready .some, (ready .linked, (frame-around _ (ready .frames) some _ _ (c .frame-at .ensures), prefix-within _ _ _ _ (at .loop .inv .1))))
+
 loop-again : tie.Need-loop-again Inv-loop μ-loop
-loop-again c = rw add-one (omega arith, c .prefix-on .ensures)
+loop-again c =
+    let read = c .before in
+    let at = read .before .before in
+    let args = start at .args in
+    let grown = rw (read .frame-at .ensures) at (c .prefix-on .ensures) in
+    rw add-one (omega arith, prefix-on (args .held) _ (args .frames .now) (at .loop .x) _ _ (at .loop .inv .1) grown)
 
 returns : tie.Need-returns Inv-loop μ-loop
 returns c =
@@ -39,7 +50,8 @@ prefix-after-spec =
     Inv-loop
     μ-loop
     (λ c. (omega arith, prefix-first _ _))
-    (λ c κs. let at = c .before in (start at .pre .0, (omega arith, at .loop .inv .1)))
+    (λ c κs. start (c .before) .pre .1)
+    prefix-on-requires
     (λ c. omega arith)
     (λ c. omega arith)
     loop-again

@@ -1,10 +1,9 @@
 -- `converter::write_frames` meets its contract: the moves are written, and then the holds in them.
 -- Assumes nothing.
 use mathlib.Core.Path.{sym}
-use Prim.Native.Nat.{ℕ}
 use native.Mathlib.Omega.{arith}
 use borrow.Author.Needs.{needs}
-use lib.Seq.{length-take-le, getD-take}
+use lib.Seq.{length-take-le}
 use Rattle.converter.proofs.write_frames.Statement.{statement}
 use Rattle.converter.proofs.write_frames.Tie as tie
 
@@ -19,10 +18,9 @@ abbrev marked : tie.After-converted → tie.After-mark-holds
 marked c = c .before .before .before .before
 
 mark-holds-requires : tie.Need-mark-holds-requires
-mark-holds-requires c κs i h =
+mark-holds-requires c κs =
     let ready = start (c .before .before) .pre in
-    let few = rw (length-take-le _ _ (ready .counted)) at h in
-    rw (getD-take {A = ℕ} _ _ i 0 few) (omega (arith, ready .inside i few))
+    (rw (length-take-le _ _ (ready .counted)) (ready .few), (omega (arith, ready .room), ready .hold-offset))
 
 returns : tie.Need-returns
 returns c =

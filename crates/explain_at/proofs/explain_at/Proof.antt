@@ -6,7 +6,7 @@ use native.Mathlib.Omega.{arith}
 use borrow.Author.Needs.{needs}
 use lib.ListN.{length}
 use Rattle.steps.proofs.Rows.{row-below}
-use Rattle.steps.proofs.Text.{span-length}
+use Rattle.steps.proofs.Text.{span-ends}
 use Rattle.steps.specs.Steps.{row}
 use Rattle.explain_at.proofs.Told.{passed-over, listed, tried, fewer}
 use Rattle.explain_at.proofs.explain_at.Statement.{statement}
@@ -35,7 +35,8 @@ small c =
     let a = start c .args in
     let ready = start c .pre in
     let taken = ready .rows .taken in
-    (omega (arith, reached c .low, ready .inside, span-length (a .pattern .now) (a .text .now), taken .text), omega (arith, reached c .few, taken .few))
+    let inside = span-ends (a .pattern .now) (a .text .now) (taken .some) (a .b) (ready .inside) in
+    (omega (arith, reached c .low, inside, taken .text), omega (arith, reached c .few, taken .few))
 
 returns : tie.Need-returns
 returns c =

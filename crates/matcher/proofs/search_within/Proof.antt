@@ -28,16 +28,18 @@ run-steps-requires c κs = let d = written c in run-ready (d .write-tables .ensu
 
 comparison-bound-requires : tie.Need-comparison-bound-requires
 comparison-bound-requires c κs =
-    let d = ran c in
+    let d = ran (c .before) in
     let e = written (d .before) in
-    omega (arith, bound-ready (fit (e .before)) (e .write-tables .ensures .0) (d .run-steps .ensures))
+    omega (arith, c .span .ensures, bound-ready (fit (e .before)) (e .write-tables .ensures .0) (d .run-steps .ensures))
 
 returns : tie.Need-returns
 returns c =
-    let d = ran (c .before .before) in
+    let far = c .before .before in
+    let d = ran (far .before) in
     let e = written (d .before) in
     let (period, all) = e .write-tables .ensures in
-    rw (c .searched .ensures, start (e .before) .pre) (done all period (d .run-steps .ensures) (c .before .comparison-bound .ensures))
+    rw (c .searched .ensures, start (e .before) .pre)
+    (done all period (d .run-steps .ensures) (far .span .ensures) (c .before .comparison-bound .ensures))
 
 pub search-within-spec : {M : Type 1} → statement M
 search-within-spec =
@@ -45,8 +47,9 @@ search-within-spec =
     (tie.spec
     (λ c κs. fit c .tables)
     run-steps-requires
-    (λ c. omega (arith, fit (written (ran c .before) .before)))
-    (λ c. omega (arith, fit (written (ran c .before) .before)))
+    (λ c κs. omega (arith, fit (written (ran c .before) .before)))
+    (λ c. omega (arith, fit (written (ran (c .before) .before) .before)))
+    (λ c. omega (arith, comparison-bound-requires c tt))
     comparison-bound-requires
     (λ c κs. search needs)
     (λ c. search needs)

@@ -2,31 +2,30 @@
 -- is one law of these. The measures are what is left of the text and of the row. Assumes nothing.
 use mathlib.Core.Bool.{true, false}
 use mathlib.Core.Logic.{⊎-elim}
-use mathlib.Core.Path.{_≡_, sym, _∙_}
+use mathlib.Core.Path.{_≡_, refl, sym, _∙_}
 use Prim.Native.Nat.{_+_, _*_, _-_, _≤_, _<_}
 use native.Mathlib.Omega.{arith}
 use lib.ListN.{length}
-use Rattle.progress.proofs.Moved.{moved-none, moved-length, moved-on, moved-listed, moved-past}
+use Rattle.progress.proofs.Moved.{moved-none, moved-length, moved-on, moved-listed}
 use Rattle.repeats.proofs.Repeating.{Repeating, repeating-first, in-pattern, repeating-stop, repeating-more, repeating-all, repeat-differing, repeat-agreeing}
-use Rattle.progress.proofs.Stretch.{at}
-use Rattle.steps.proofs.Text.{span-length}
+use Rattle.steps.proofs.Text.{span-few}
 use Rattle.repeats.proofs.follow_repeats.Statement.{statement}
 use Rattle.repeats.proofs.follow_repeats.Tie as tie
 use Rattle.repeats.specs.Repeats.{Repeats-ready}
-use Rattle.progress.specs.Progress.{Compared-so, Moved}
+use Rattle.progress.specs.Progress.{at, Compared-so, Moved}
 
 abbrev Inv-loop : tie.InvT-loop
-Inv-loop pattern text delta1 delta3 p found m b occurrences comparisons i₀ i = Repeating pattern text b i
+Inv-loop pattern text delta1 delta3 p found m run b occurrences i₀ i = Repeating pattern text b i
 
 abbrev μ-loop : tie.MeasureT-loop
-μ-loop pattern text delta1 delta3 p found m b occurrences comparisons i₀ i = p - i
+μ-loop pattern text delta1 delta3 p found m run b occurrences i₀ i = p - i
 
 abbrev Inv-repeats : tie.InvT-repeats
-Inv-repeats pattern text delta1 delta3 p found₀ m b₀ occurrences₀ comparisons₀ found b occurrences comparisons =
-    Moved pattern text (at b₀ p occurrences₀ comparisons₀) true (at b p occurrences comparisons) true found₀ found
+Inv-repeats pattern text delta1 delta3 p found₀ m run₀ found run =
+    Moved pattern text run₀ run found₀ found × (run .shift ≡ p) × (run .repeat ≡ true)
 
 abbrev μ-repeats : tie.MeasureT-repeats
-μ-repeats pattern text delta1 delta3 p found₀ m b₀ occurrences₀ comparisons₀ found b occurrences comparisons = length text + 1 - b
+μ-repeats pattern text delta1 delta3 p found₀ m run₀ found run = length text + 1 - run .position
 
 -- the places of the code: where a turn of the loop over the repeats starts; where a comparison is made; where the comparisons have ended
 abbrev Repeat : Type 0
@@ -46,15 +45,22 @@ ready : (c : Repeat) → let a = start c .args in Repeats-ready (a .pattern .now
 ready c = start c .pre .0
 
 room : (c : Repeat) → length (start c .args .text .now) ≤ length (start c .args .found .now)
-room c = start c .pre .1 .1 .1
+room c = start c .pre .1 .1 .1 .1
 
--- the steps begin where the call says, since the last shift is the period
-begun :
-    (a : tie.Start Inv-loop μ-loop Inv-repeats μ-repeats) → let x = a .args .begin in
-    at (x .position) (a .args .p) (x .occurrences) (x .comparisons) ≡ x
-begun a =
-    let x = a .args .begin in
-    λ i. record { position = x .position; shift = sym (a .pre .1 .1 .0) i; occurrences = x .occurrences; comparisons = x .comparisons }
+-- a repeat comes next, after a shift by the period
+next-is :
+    (c : Repeat) → let x = c .repeats .run in
+    x ≡ at (x .position) (start c .args .p) true (x .occurrences) (x .comparisons)
+next-is c =
+    let x = c .repeats .run in
+    let known = c .repeats .inv in
+    λ i. record { position = x .position; shift = known .1 i; repeat = known .2 i; occurrences = x .occurrences; comparisons = x .comparisons }
+
+so-far :
+    (c : Repeat) → let a = start c .args in let x = c .repeats .run in
+    Moved (a .pattern .now) (a .text .now) (a .begin) (at (x .position) (a .p) true (x .occurrences) (x .comparisons)) (a .found .now)
+    (c .repeats .found)
+so-far c = rw (next-is c) at (c .repeats .inv .0)
 
 -- the repeat that a comparison is made for, and the one whose comparisons have ended
 abbrev compared : Position → Repeat
@@ -66,13 +72,13 @@ repeat-of c = compared (c .before .before .before)
 -- a position is in the pattern, and the alignment is in the text
 inside :
     (c : Position) → let a = start (compared c) .args in
-    (c .before .loop .i < length (a .pattern .now)) × (compared c .repeats .b + length (a .pattern .now) ≤ length (a .text .now))
+    (c .before .loop .i < length (a .pattern .now)) × (compared c .repeats .run .position + length (a .pattern .now) ≤ length (a .text .now))
 inside c = (in-pattern (ready (compared c) .taken) (c .before .loop .inv), c .loop-test .left)
 
 -- however the comparisons end, so many of them agree
 ended :
     (c : End) → let a = start (repeat-of c) .args in
-    Compared-so (a .pattern .now) (a .text .now) (repeat-of c .repeats .b) true (c .if1 .agreed) × (c .if1 .agreed ≤ a .p)
+    Compared-so (a .pattern .now) (a .text .now) (repeat-of c .repeats .run .position) true (c .if1 .agreed) × (c .if1 .agreed ≤ a .p)
 ended c =
     let d = c .before .before .before in
     let r = ready (compared d) in
@@ -87,21 +93,21 @@ ended c =
 
 -- the numbers are small
 small :
-    (c : Repeat) → let a = start c .args in let v = c .repeats in
-    (v .b ≤ length (a .text .now))
-    × (v .comparisons ≤ 128 * v .b)
-    × (v .occurrences ≤ v .b)
+    (c : Repeat) → let a = start c .args in let x = c .repeats .run in
+    (x .position < length (a .text .now) + length (a .pattern .now))
+    × (x .comparisons ≤ 128 * x .position)
+    × (x .occurrences ≤ x .position)
     × (length (a .text .now) ≤ 16384)
     × (length (a .pattern .now) ≤ 128)
     × (1 ≤ length (a .pattern .now))
     × (a .p ≤ length (a .pattern .now))
     × (1 ≤ a .p)
-    × (length (v .found) ≡ length (a .found .now))
+    × (length (c .repeats .found) ≡ length (a .found .now))
 small c =
     let a = start c .args in
     let r = ready c in
-    let stands = c .repeats .inv .stretch .standing in
-    let far = span-length (a .pattern .now) (a .text .now) in (
+    let stands = so-far c .stretch .standing in
+    let far = span-few (a .pattern .now) (a .text .now) (r .taken .some) in (
       omega (arith, stands .inside),
       stands .few,
       stands .fewer,
@@ -110,7 +116,7 @@ small c =
       r .taken .some,
       stands .within,
       stands .positive,
-      moved-length (r .taken) (room c) (c .repeats .inv),
+      moved-length (r .taken) (room c) (so-far c),
     )
 
 loop-again : tie.Need-loop-again Inv-loop μ-loop Inv-repeats μ-repeats
@@ -125,63 +131,49 @@ repeat-shift-requires c κs = (ready (repeat-of (c .before)), (ended (c .before)
 -- the steps go on from a repeat of which one comparison differed
 moved :
     (c : tie.After-repeat-shift Inv-loop μ-loop Inv-repeats μ-repeats) → let d = c .before .before in
-    let v = repeat-of d .repeats in let a = start (repeat-of d) .args in let k = c .repeat-shift .result in
-    Moved (a .pattern .now) (a .text .now) (a .begin) true
-    (at (v .b + k) k (v .occurrences) (v .comparisons + d .if1 .agreed + 1)) false (a .found .now) (v .found)
+    let x = repeat-of d .repeats .run in let a = start (repeat-of d) .args in let k = c .repeat-shift .result in
+    Moved (a .pattern .now) (a .text .now) (a .begin) (at (x .position + k) k false (x .occurrences) (x .comparisons + d .if1 .agreed + 1)) (a .found .now)
+    (repeat-of d .repeats .found)
 moved c =
     let d = c .before .before in
     let r = repeat-of d in
-    let so-far = r .repeats .inv in
-    rw (begun (start r)) at
-    (moved-on (ready r .taken) (room r) so-far
-    (repeat-differing (ready r) (so-far .stretch .standing) (ended d .0) (c .before .if3 .taken) (c .repeat-shift .ensures)))
+    moved-on (ready r .taken) (room r) (so-far r)
+    (repeat-differing (ready r) (so-far r .stretch .standing) (ended d .0) (c .before .if3 .taken) (c .repeat-shift .ensures))
 
 -- an occurrence has its place in the buffer
 placed :
-    (c : tie.Else3 Inv-loop μ-loop Inv-repeats μ-repeats) → let v = repeat-of (c .before) .repeats in let a = start (repeat-of (c .before)) .args in
-    (v .occurrences < length (v .found)) × (v .b + length (a .pattern .now) ≤ length (a .text .now))
+    (c : tie.Else3 Inv-loop μ-loop Inv-repeats μ-repeats) → let r = repeat-of (c .before) in let a = start r .args in
+    (r .repeats .run .occurrences < length (r .repeats .found))
+    × (r .repeats .run .position + length (a .pattern .now) ≤ length (a .text .now))
 placed c =
     let r = repeat-of (c .before) in
-    let a = start r .args in
-    omega (arith, small r, room r, ended (c .before) .0 .inside, span-length (a .pattern .now) (a .text .now))
+    omega (arith, small r, room r, inside (c .before .before .before .before) .1)
 
 repeats-again : tie.Need-repeats-again Inv-loop μ-loop Inv-repeats μ-repeats
 repeats-again c =
-    let d = c .before in
+    let d = c .before .before in
     let r = repeat-of d in
-    let so-far = r .repeats .inv in
     let (there, few) = ended d in
-    moved-listed (ready r .taken) (room r) so-far (omega (arith, small r, placed c .0))
-    (repeat-agreeing (ready r) (so-far .stretch .standing) there (omega (arith, few, c .if3 .left)))
+    let listed = moved-listed (ready r .taken) (room r) (so-far r) (omega (arith, small r, placed (c .before) .0))
+    (repeat-agreeing (ready r) (so-far r .stretch .standing) there (omega (arith, few, c .before .if3 .left))) in
+    (listed, refl, refl)
 
 returns-2 : tie.Need-returns-2 Inv-loop μ-loop Inv-repeats μ-repeats
-returns-2 c =
-    let r = c .before .before in
-    let a = start r .args in
-    let far = span-length (a .pattern .now) (a .text .now) in
-    rw (begun (start r)) at (moved-past (ready r .taken) (room r) (r .repeats .inv) {r'' = false} (omega (arith, c .loop-test .taken)))
+returns-2 c = (λ l. absurd (omega (arith, c .loop-test .taken)), c .before .before .repeats .inv .0)
 
 repeats-holds : tie.Need-repeats-holds Inv-loop μ-loop Inv-repeats μ-repeats
 repeats-holds c =
     let a = c .before .before .before .before .before in
-    let stands = a .pre .1 .0 in
-    let same = a .pre .1 .1 .0 in
-    moved-none (a .pre .0 .taken) (at _ (a .args .p) _ _) true (a .args .found .now)
-    (record {
-      inside = stands .inside;
-      positive = omega (arith, stands .positive);
-      within = omega (arith, stands .within);
-      fewer = stands .fewer;
-      few = stands .few;
-    })
+    (moved-none (a .pre .0 .taken) (a .args .begin) (a .args .found .now) (a .pre .1 .0), a .pre .1 .1 .0, a .pre .1 .1 .1 .0)
 
--- the next alignment is at most just after the text
+-- the next alignment is at most at the end of what is shown
 near :
-    (c : tie.After-repeat-shift Inv-loop μ-loop Inv-repeats μ-repeats) → let r = repeat-of (c .before .before) in
-    r .repeats .b + c .repeat-shift .result ≤ length (start r .args .text .now)
+    (c : tie.After-repeat-shift Inv-loop μ-loop Inv-repeats μ-repeats) → let r = repeat-of (c .before .before) in let a = start r .args in
+    r .repeats .run .position + c .repeat-shift .result < length (a .text .now) + length (a .pattern .now)
 near c =
-    let a = start (repeat-of (c .before .before)) .args in
-    omega (arith, moved c .stretch .standing .inside, span-length (a .pattern .now) (a .text .now))
+    let r = repeat-of (c .before .before) in
+    let a = start r .args in
+    omega (arith, moved c .stretch .standing .inside, span-few (a .pattern .now) (a .text .now) (ready r .taken .some))
 
 pub follow-repeats-spec : {M : Type 1} → statement M
 follow-repeats-spec =
@@ -204,17 +196,17 @@ follow-repeats-spec =
     loop-again
     repeat-shift-requires
     (λ c. omega (arith, near c, small (repeat-of (c .before .before))))
-    (λ c. omega (arith, ended (c .before .before .before) .1, small (repeat-of (c .before .before .before))))
-    (λ c. omega (arith, ended (c .before .before .before) .1, small (repeat-of (c .before .before .before))))
-    (λ c. let r = repeat-of (c .before .before .before) in moved-length (ready r .taken) (room r) (r .repeats .inv))
-    (λ c. moved (c .before))
+    (λ c. omega (arith, ended (c .before .before .before .before) .1, small (repeat-of (c .before .before .before .before))))
+    (λ c. omega (arith, ended (c .before .before .before .before) .1, small (repeat-of (c .before .before .before .before))))
+    (λ c. let r = repeat-of (c .before .before .before .before) in moved-length (ready r .taken) (room r) (so-far r))
+    (λ c. (λ l. refl, moved (c .before .before)))
     (λ c. omega (arith, small (repeat-of (c .before))))
     (λ c. omega (arith, small (repeat-of (c .before))))
     (λ c. placed c .0)
     (λ c. omega (arith, small (repeat-of (c .before))))
     (λ c. omega (arith, small (repeat-of (c .before))))
-    (λ c. omega (arith, small (repeat-of (c .before))))
-    (λ c. omega (arith, small (repeat-of (c .before)), placed c .1))
+    (λ c. omega (arith, small (repeat-of (c .before .before))))
+    (λ c. omega (arith, small (repeat-of (c .before .before)), placed (c .before) .1))
     repeats-again
-    (λ c. let r = c .before .before in moved-length (ready r .taken) (room r) (r .repeats .inv))
+    (λ c. let r = c .before .before in moved-length (ready r .taken) (room r) (r .repeats .inv .0))
     returns-2)

@@ -18,8 +18,8 @@ use Rattle.steps.specs.Text.{shown}
 abbrev start : tie.After-shared-slice-known4 → tie.Start
 start c = c .before .before .before .before
 
-first-shift-requires : tie.Need-first-shift-requires
-first-shift-requires c κs =
+first-shift-around-requires : tie.Need-first-shift-around-requires
+first-shift-around-requires c κs =
     let (ready, (ended, fewer)) = start (c .before) .pre in
     let p = period-facts (start (c .before) .args .pattern .now) (ready .taken .some) in
     let same = ready .period-is in
@@ -39,7 +39,7 @@ returns c =
     let first = c .before in
     let a = start (first .before) .args in
     let (ready, (ended, fewer)) = start (first .before) .pre in
-    c .first-shift .ensures
+    c .first-shift-around .ensures
     ∙ sym (step-shift-first (shown (a .text .now)) (a .pattern .now) (a .b) (a .p) true (sym (ended .count) ∙ first .if1 .taken))
 
 -- fewer agreed than the pattern has positions
@@ -58,7 +58,7 @@ pub repeat-shift-spec : {M : Type 1} → statement M
 repeat-shift-spec =
     tie.close
     (tie.spec
-    first-shift-requires
+    first-shift-around-requires
     (λ c. search needs)
     (λ c. omega (arith, few c))
     (λ c. search needs)

@@ -1,223 +1,89 @@
--- `run::run_steps` meets its contract. The loop over the alignments keeps `Moved`, the loop over the comparisons of one `Comparing`,
--- and each turn is one law of these. The measures are what is left of the text and of the pattern. Assumes nothing.
+-- `run::run_steps` meets its contract: the alignments that end inside the text and then those that wrap around are all of them.
+-- By the law of the steps that have come past what is shown. Assumes nothing.
 use mathlib.Core.Bool.{false}
-use mathlib.Core.Logic.{⊎-elim}
-use Prim.Native.Nat.{_+_, _*_, _-_, _≤_, _<_}
+use Prim.Native.Nat.{_+_, _*_, _≤_, _<_}
 use native.Mathlib.Omega.{arith}
+use borrow.Author.Needs.{needs}
 use lib.ListN.{length}
-use Rattle.run.proofs.Comparing.{Comparing, position, comparing-first, in-buffer, comparing-all, in-order, is-position, in-pattern, comparing-more, comparing-stop}
-use Rattle.progress.proofs.Moved.{moved-none, moved-length, moved-on, moved-then, moved-all, first-standing}
-use Rattle.progress.proofs.Stretch.{at}
-use Rattle.steps.proofs.Text.{span-length}
+use Rattle.steps.proofs.Text.{span-few}
+use Rattle.progress.proofs.Moved.{moved-length, moved-then, moved-all}
+use Rattle.progress.specs.Progress.{at, Moved}
 use Rattle.run.proofs.run_steps.Statement.{statement}
 use Rattle.run.proofs.run_steps.Tie as tie
-use Rattle.run.specs.Run.{Run-ready}
-use Rattle.progress.specs.Progress.{Compared-so, Moved}
 
-abbrev Inv-loop : tie.InvT-loop
-Inv-loop pattern text order delta2 delta1 delta3 found m run b i₀ i = Comparing pattern text b i
+-- the places of the code: the function's entry, where the first part has been run, and where the second has
+abbrev start : tie.After-run-inside → tie.Start
+start c = c .before .before .before .before .before .before .before .before
 
-abbrev μ-loop : tie.MeasureT-loop
-μ-loop pattern text order delta2 delta1 delta3 found m run b i₀ i = length pattern - i
+abbrev wrapped : tie.After-struct-known → tie.After-run-wrapping
+wrapped c = c .before .before .before
 
-abbrev Inv-alignments : tie.InvT-alignments
-Inv-alignments pattern text order delta2 delta1 delta3 found₀ m run₀ found run =
-    Moved pattern text (at 0 (length pattern) 0 0) false run false found₀ found
+abbrev first : tie.After-run-wrapping-arg → tie.After-run-inside
+first c = c .before .before .before
 
-abbrev μ-alignments : tie.MeasureT-alignments
-μ-alignments pattern text order delta2 delta1 delta3 found₀ m run₀ found run = length text + 1 - run .position
-
--- the places of the code: where a turn of the loop over the alignments starts; where those that differ at once are passed; where an entry of the
--- order is read, and where it is a position; where the comparisons have ended
-abbrev Alignment : Type 0
-Alignment = tie.At-alignments Inv-loop μ-loop Inv-alignments μ-alignments
-
-abbrev Passing : Type 0
-Passing = tie.After-pass-differing Inv-loop μ-loop Inv-alignments μ-alignments
-
-abbrev Entry : Type 0
-Entry = tie.After-h Inv-loop μ-loop Inv-alignments μ-alignments
-
-abbrev Position : Type 0
-Position = tie.Else1 Inv-loop μ-loop Inv-alignments μ-alignments
-
-abbrev End : Type 0
-End = tie.Joined1 Inv-loop μ-loop Inv-alignments μ-alignments
-
--- the function's entry
-abbrev start : Alignment → tie.Start Inv-loop μ-loop Inv-alignments μ-alignments
-start c = c .before .before .before .before .before .before .before
-
-ready :
-    (c : Alignment) → let a = start c .args in
-    Run-ready (a .pattern .now) (a .text .now) (a .order .now) (a .delta2 .now) (a .delta1 .now) (a .delta3 .now) (a .found .now)
-ready c = start c .pre
-
--- where those that differ at once are passed
-passed :
-    (c : Passing) → let a = start (c .before) .args in
-    Moved (a .pattern .now) (a .text .now) (at 0 (length (a .pattern .now)) 0 0) false (c .pass-differing .result) false (a .found .now)
-    (c .before .alignments .found)
-passed c =
-    let r = ready (c .before) .shifts in
-    moved-on (r .taken) (r .room) (c .before .alignments .inv) (c .pass-differing .ensures .stretch)
-
--- the numbers are small there
-small :
-    (c : Passing) → let a = start (c .before) .args in let x = c .pass-differing .result in
-    (x .position ≤ length (a .text .now))
-    × (x .comparisons ≤ 128 * x .position)
-    × (x .occurrences ≤ x .position)
-    × (length (a .text .now) ≤ 16384)
-    × (length (a .pattern .now) ≤ 128)
-small c =
-    let a = start (c .before) .args in
-    let taken = ready (c .before) .shifts .taken in
-    let stands = passed c .stretch .standing in (
-      omega (arith, stands .inside, span-length (a .pattern .now) (a .text .now)),
-      stands .few,
-      stands .fewer,
-      taken .text,
-      taken .few,
-    )
-
--- from an entry of the order back to the alignment that it is read for
-abbrev passing : Entry → Passing
-passing c = c .before .before .before
-
--- an entry that is a position is inside the pattern, and so is its place in the order; the alignment is inside the text
-inside :
-    (c : Position) → let e = c .before in let a = start (passing e .before) .args in
-    (position (a .order .now) (e .before .before .loop .i) < length (a .pattern .now))
-    × (e .before .before .loop .i < length (a .pattern .now))
-    × (passing e .pass-differing .result .position + length (a .pattern .now) ≤ length (a .text .now))
-inside c =
-    let e = c .before in
-    let r = ready (passing e .before) in
-    let a = start (passing e .before) .args in
-    let known = e .before .before .loop .inv in
-    let in-text = e .before .loop-test .left in (
-      in-pattern (a .order .now) (r .shifts .taken) (r .order-ready) known in-text (c .if1 .left),
-      in-order (a .order .now) (r .shifts .taken) (r .order-ready) known in-text (c .if1 .left),
-      in-text,
-    )
-
--- however the comparisons end, so many of them agree
-ended :
-    (c : End) → let p = passing (c .before) in let a = start (p .before) .args in
-    Compared-so (a .pattern .now) (a .text .now) (p .pass-differing .result .position) false (c .if1 .agreed) × (1 ≤ c .if1 .agreed)
-ended c =
-    let e = c .before in
-    let r = ready (passing e .before) in
-    let a = start (passing e .before) .args in
-    let known = e .before .before .loop .inv in
-    let in-text = e .before .loop-test .left in
-    ⊎-elim
-    (λ x. rw (x .1) (comparing-all (a .order .now) (r .shifts .taken) (r .order-ready) known in-text (x .0 .taken), known .some))
-    (λ x. rw (x .4) (comparing-stop (a .order .now) (r .shifts .taken) (r .order-ready) known in-text (x .0 .left) (x .3 .taken), known .some))
-    (c .if1 .came)
-
-cast-at : tie.Need-cast-at Inv-loop μ-loop Inv-alignments μ-alignments
-cast-at c =
-    let e = c .before in
-    let r = ready (passing e .before) in
-    let a = start (passing e .before) .args in
-    let known = e .before .before .loop .inv in
-    let here = is-position (a .order .now) (r .shifts .taken) (r .order-ready) known (e .before .loop-test .left) (c .if1 .left) in
-    (rw here tt, omega (arith, inside c .0, r .shifts .taken .few))
-
-loop-again : tie.Need-loop-again Inv-loop μ-loop Inv-alignments μ-alignments
-loop-again c =
-    let d = c .before .before .before in
-    let e = d .before in
-    let r = ready (passing e .before) in
-    let a = start (passing e .before) .args in
-    let known = e .before .before .loop .inv in
-    comparing-more (a .order .now) (r .shifts .taken) (r .order-ready) known (e .before .loop-test .left) (d .if1 .left) (c .if2 .left)
-
-move-on-requires : tie.Need-move-on-requires Inv-loop μ-loop Inv-alignments μ-alignments
-move-on-requires c κs =
-    let p = passing (c .before .before) in
-    let r = ready (p .before) .shifts in
-    let (there, some) = ended (c .before) in (
+run-wrapping-requires : tie.Need-run-wrapping-requires
+run-wrapping-requires c κs =
+    let d = first c in
+    let r = start d .pre in
+    let part = d .run-inside .ensures in (
       record {
-        taken = r .taken;
-        delta2-ready = r .delta2-ready;
-        delta1-ready = r .delta1-ready;
-        delta3-ready = r .delta3-ready;
-        room = omega (arith, r .room, moved-length (r .taken) (r .room) (p .before .alignments .inv));
+        order-ready = r .order-ready;
+        shifts = record {
+          taken = r .shifts .taken;
+          delta2-ready = r .shifts .delta2-ready;
+          delta1-ready = r .shifts .delta1-ready;
+          delta3-ready = r .shifts .delta3-ready;
+          room = omega (arith, r .shifts .room, moved-length (r .shifts .taken) (r .shifts .room) part);
+        };
       },
-      (passed p .stretch .standing, (there, some)),
+      part .stretch .standing,
     )
 
--- where the steps stand after the alignment
-module _ (c : tie.After-slice-known2 Inv-loop μ-loop Inv-alignments μ-alignments) where
-  abbrev moved : tie.After-move-on Inv-loop μ-loop Inv-alignments μ-alignments
-  moved = c .before .before
+-- both parts together
+moved :
+    (c : tie.After-struct-known) → let d = wrapped c in let a = start (first (d .before)) .args in
+    Moved (a .pattern .now) (a .text .now) (at 0 (length (a .pattern .now)) false 0 0) (d .run-wrapping .result) (a .found .now)
+    (d .run-wrapping .last .1 .1 .1 .1 .1 .1 .1 .0)
+moved c =
+    let d = wrapped c in
+    let e = first (d .before) in
+    let r = start e .pre .shifts in
+    moved-then (r .taken) (r .room) (e .run-inside .ensures) (d .run-wrapping .ensures .1)
 
-  abbrev before-it : Passing
-  before-it = passing (moved .before .before .before)
+-- the counts are small
+small :
+    (c : tie.After-struct-known) → let r = wrapped c .run-wrapping .result in
+    (r .occurrences ≤ 16384) × (r .comparisons ≤ 128 * r .position) × (r .position < 16384 + 128)
+small c =
+    let e = first (wrapped c .before) in
+    let taken = start e .pre .shifts .taken in
+    let stands = moved c .stretch .standing in
+    let a = start e .args in
+    omega (arith, stands .few-occurrences, stands .few, stands .inside, taken .text, taken .few, span-few (a .pattern .now) (a .text .now) (taken .some))
 
-  alignments-again :
-      let a = start (before-it .before) .args in
-      Moved (a .pattern .now) (a .text .now) (at 0 (length (a .pattern .now)) 0 0) false (moved .move-on .result) false (a .found .now)
-      (moved .move-on .last .1 .1 .1 .1 .1 .1 .1 .0)
-  alignments-again =
-      let r = ready (before-it .before) .shifts in
-      moved-then (r .taken) (r .room) (passed before-it) (moved .move-on .ensures .1)
-
-  -- it is further on, and still in the text or just after it
-  further :
-      let next = moved .move-on .result in
-      (before-it .before .alignments .run .position < next .position)
-      × (next .position ≤ length (start (before-it .before) .args .text .now))
-  further =
-      let a = start (before-it .before) .args in
-      let far = span-length (a .pattern .now) (a .text .now) in
-      let forward = before-it .pass-differing .ensures .stretch .forward in
-      omega (arith, forward, moved .move-on .ensures .0, alignments-again .stretch .standing .inside)
-
-same-length : tie.Need-same-length Inv-loop μ-loop Inv-alignments μ-alignments
-same-length c =
-    let a = c .before .before .before .before .before in
-    let r = ready a .shifts in
-    moved-length (r .taken) (r .room) (a .alignments .inv)
-
--- past the text's end
-returns : tie.Need-returns Inv-loop μ-loop Inv-alignments μ-alignments
+returns : tie.Need-returns
 returns c =
-    let d = c .before .before in
-    let p = d .before .before in
-    let a = start (p .before) .args in
-    let r = ready (p .before) .shifts in
-    let over = moved-all (r .taken) (passed p) (omega (arith, d .loop-test .taken, span-length (a .pattern .now) (a .text .now))) in
+    let d = c .before in
+    let e = first (wrapped d .before) in
+    let taken = start e .pre .shifts .taken in
+    let a = start e .args in
+    let far = span-few (a .pattern .now) (a .text .now) (taken .some) in
+    let over = moved-all taken (moved d) (omega (arith, wrapped d .run-wrapping .ensures .0)) in
     record { occurrences-counted = over .0; comparisons-counted = over .1; occurrences-left = over .2 }
+
+same-length : tie.Need-same-length
+same-length c =
+    let e = first (wrapped (c .before) .before) in
+    let r = start e .pre .shifts in
+    moved-length (r .taken) (r .room) (moved (c .before))
 
 pub run-steps-spec : {M : Type 1} → statement M
 run-steps-spec =
     tie.close
     (tie.spec
-    Inv-loop
-    μ-loop
-    Inv-alignments
-    μ-alignments
-    (λ c. let taken = c .before .before .before .before .before .before .pre .shifts .taken in moved-none taken _ false _ (first-standing taken))
-    (λ c κs. let r = ready c .shifts in (r .delta1-ready, (r .taken, c .alignments .inv .stretch .standing)))
-    (λ c. let r = ready (c .before) in comparing-first _ (r .shifts .taken) (r .order-ready) (c .pass-differing .ensures))
+    (λ c κs. search needs)
+    run-wrapping-requires
+    (λ c. omega (arith, small c))
     (λ c. omega (arith, small (c .before)))
-    (λ c. omega (arith, c .before .loop .inv .within, small (c .before .before)))
-    (λ c. let r = ready (c .before .before .before) in in-buffer _ (r .shifts .taken) (r .order-ready) (c .before .loop .inv))
-    cast-at
-    (λ c. inside (c .before) .0)
-    (λ c. omega (arith, inside (c .before), small (passing (c .before .before))))
-    (λ c. omega (arith, inside (c .before .before)))
-    (λ c. omega (arith, inside (c .before .before .before), small (passing (c .before .before .before .before))))
-    (λ c. omega (arith, inside (c .before .before .before)))
-    loop-again
-    move-on-requires
-    (λ c. omega (arith, further c))
-    alignments-again
-    (λ c. omega (arith, small (c .before .before .before)))
-    (λ c. omega (arith, small (c .before .before .before .before)))
     same-length
     returns)

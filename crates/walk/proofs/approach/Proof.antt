@@ -1,10 +1,10 @@
 -- `walk::approach` meets its contract. The loop keeps `Walked`: it goes on by an alignment that ends before b, and then by those that are passed over
 -- quickly. The measure is what is left before b. Assumes nothing.
 use mathlib.Core.Path.{refl}
-use Prim.Native.Nat.{_+_, _-_, _≤_, _<_}
+use Prim.Native.Nat.{_-_, _≤_, _<_}
 use native.Mathlib.Omega.{arith}
 use lib.ListN.{length}
-use Rattle.steps.proofs.Text.{span-length}
+use Rattle.steps.proofs.Text.{span-ends}
 use Rattle.alignments.proofs.Shifts.{pattern-taken}
 use Rattle.walk.proofs.Passing.{repeats-after, order-after}
 use Rattle.walk.proofs.Walked.{walked-first, walked-over, further}
@@ -37,10 +37,14 @@ ready c = start c .pre
 -- the numbers are small
 small :
     (c : Turn) → let a = start c .args in
-    (c .loop .here .position ≤ a .b) × (a .b + length (a .pattern .now) ≤ length (a .text .now)) × (length (a .text .now) ≤ 16384)
+    (c .loop .here .position ≤ a .b)
+    × (a .b < length (a .text .now))
+    × (length (a .text .now) ≤ 16384)
+    × (length (a .pattern .now) ≤ 128)
 small c =
     let a = start c .args in
-    (c .loop .inv .low, omega (arith, ready c .inside, span-length (a .pattern .now) (a .text .now)), ready c .rows .taken .text)
+    let taken = ready c .rows .taken in
+    (c .loop .inv .low, span-ends (a .pattern .now) (a .text .now) (taken .some) (a .b) (ready c .inside), taken .text, taken .few)
 
 -- the alignment is passed over
 abbrev turn : Next → Turn
@@ -79,7 +83,7 @@ approach-spec =
     μ-loop
     (λ c. let r = c .before .before .before .before .before .pre in walked-first (r .rows .taken) _ (r .inside))
     (λ c. omega (arith, small (c .before)))
-    (λ c κs. let d = c .before .before in (ready d .rows, d .loop .inv .laid))
+    (λ c κs. let d = c .before .before in (ready d .rows, omega (arith, c .if1 .taken, small d)))
     (λ c κs. let d = c .before .before .before in (ready d .shifts, (d .loop .inv .laid, c .agreeing .ensures)))
     (λ c κs. let r = ready (turn c) .rows in (pattern-taken (r .taken), r .period-is))
     pass-occurrences-requires

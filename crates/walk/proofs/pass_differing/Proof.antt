@@ -2,11 +2,11 @@
 -- The measure is what is left before b. Assumes nothing.
 use mathlib.Core.Bool.{false}
 use mathlib.Core.Path.{_≡_}
-use Prim.Native.Nat.{_+_, _-_, _≤_}
+use Prim.Native.Nat.{_+_, _-_, _≤_, _<_}
 use native.Mathlib.Omega.{arith}
 use borrow.Author.Tests.{eqb-false, not-true}
 use lib.ListN.{length}
-use Rattle.steps.proofs.Text.{span-length}
+use Rattle.steps.proofs.Text.{span-ends}
 use Rattle.steps.specs.Text.{span}
 use Rattle.progress.specs.Progress.{Taken}
 use Rattle.walk.proofs.Passing.{at, passed-differing}
@@ -35,12 +35,14 @@ taken c = start c .pre .1 .0
 small :
     (c : Turn) → let a = start c .args in
     (c .loop .position ≤ a .b)
-    × (a .b + length (a .pattern .now) ≤ length (a .text .now))
+    × (a .b < length (a .text .now))
     × (length (a .text .now) ≤ 16384)
     × (1 ≤ length (a .pattern .now))
+    × (length (a .pattern .now) ≤ 128)
 small c =
     let a = start c .args in
-    (c .loop .inv .0 .low, omega (arith, start c .pre .1 .1 .0, span-length (a .pattern .now) (a .text .now)), taken c .text, taken c .some)
+    let some = taken c .some in
+    (c .loop .inv .0 .low, span-ends (a .pattern .now) (a .text .now) some (a .b) (start c .pre .1 .1 .0), taken c .text, some, taken c .few)
 
 -- the pattern is laid as it is at entry
 begun :
@@ -67,7 +69,7 @@ first-shift-requires : tie.Need-first-shift-requires Inv-loop μ-loop
 first-shift-requires c κs =
     let d = c .before .before .before .before in
     let laid = d .loop .inv .0 .laid in
-    (start d .pre .0, (taken d, (laid .inside, (laid .positive, laid .within))))
+    (start d .pre .0, (taken d, (omega (arith, c .before .before .before .loop-test .taken, small d), (laid .positive, laid .within))))
 
 pub pass-differing-spec : {M : Type 1} → statement M
 pass-differing-spec =

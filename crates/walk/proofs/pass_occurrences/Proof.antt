@@ -1,11 +1,11 @@
 -- `walk::pass_occurrences` meets its contract. The loop keeps `Walked`, and each turn is the law of an alignment of which all agree.
 -- The measure is what is left before b. Assumes nothing.
 use mathlib.Core.Path.{_≡_, refl}
-use Prim.Native.Nat.{_+_, _-_, _≤_}
+use Prim.Native.Nat.{_+_, _-_, _≤_, _<_}
 use native.Mathlib.Omega.{arith}
 use borrow.Author.Tests.{eqb-true}
 use lib.ListN.{length}
-use Rattle.steps.proofs.Text.{span-length}
+use Rattle.steps.proofs.Text.{span-ends}
 use Rattle.steps.specs.Text.{span}
 use Rattle.alignments.proofs.Shifts.{pattern-taken}
 use Rattle.alignments.specs.Laid.{Row-ready}
@@ -35,11 +35,13 @@ ready c = start c .pre .0
 small :
     (c : Turn) → let a = start c .args in
     (c .loop .next .position ≤ a .b)
-    × (a .b + length (a .pattern .now) ≤ length (a .text .now))
+    × (a .b < length (a .text .now))
     × (length (a .text .now) ≤ 16384)
+    × (length (a .pattern .now) ≤ 128)
 small c =
     let a = start c .args in
-    (c .loop .inv .0 .low, omega (arith, start c .pre .1 .0, span-length (a .pattern .now) (a .text .now)), ready c .taken .text)
+    let taken = ready c .taken in
+    (c .loop .inv .0 .low, span-ends (a .pattern .now) (a .text .now) (taken .some) (a .b) (start c .pre .1 .0), taken .text, taken .few)
 
 -- the occurrence is passed over
 abbrev turn : tie.Then2 Inv-loop μ-loop → Turn
@@ -64,7 +66,7 @@ pass-occurrences-spec =
     (λ c κs. let r = c .before .before .pre .0 in (pattern-taken (r .taken), r .period-is))
     (λ c. let d = c .before .before .before in (d .pre .1 .1 .1, (refl, omega arith)))
     (λ c. omega (arith, small (c .before)))
-    (λ c κs. let d = c .before .before in (ready d, d .loop .inv .0 .laid))
+    (λ c κs. let d = c .before .before in (ready d, omega (arith, c .if1 .taken, small d)))
     (λ c. omega (arith, passed (c .before) .low, small (turn (c .before))))
     (λ c. omega (arith, passed (c .before) .low, passed (c .before) .laid .positive))
     (λ c. (passed (c .before), (refl, omega (arith, turn (c .before) .loop .inv .1 .1))))

@@ -63,7 +63,7 @@ returns c =
     let n = c .before in
     let d = turn n in
     let told = n .before .before in
-    reached (ready d .rows .taken) (start d .args .b) (ready d .inside) (d .loop .inv) (told .before .agreeing .ensures) (spoilt told)
+    reached (ready d .rows .taken) (start d .args .b) (ready d .inside) (d .loop .inv) (told .before .agreeing-around .ensures) (spoilt told)
     (n .before .laid-after .ensures) (c .if2 .taken)
 
 loop-again : tie.Need-loop-again Inv-loop μ-loop
@@ -82,8 +82,8 @@ reach-spec =
     (λ c κs. c .before .before .before .before .before .pre)
     (λ c. c .approach .ensures)
     (λ c κs. (ready c .rows, c .loop .inv .laid))
-    (λ c κs. let d = c .before .before in (ready d .rows, (d .loop .inv .laid, (c .before .agreeing .ensures, d .loop .inv .low))))
-    (λ c κs. let d = c .before .before in (ready d .shifts, (d .loop .inv .laid, c .before .agreeing .ensures)))
+    (λ c κs. let d = c .before .before in (ready d .rows, (d .loop .inv .laid, (c .before .agreeing-around .ensures, d .loop .inv .low))))
+    (λ c κs. let d = c .before .before in (ready d .shifts, (d .loop .inv .laid, c .before .agreeing-around .ensures)))
     returns
     (λ c. omega (arith, on (c .before), c .if2 .left))
     loop-again)

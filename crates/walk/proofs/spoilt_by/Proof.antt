@@ -1,13 +1,13 @@
 -- `walk::spoilt_by` meets its contract. The loop over the comparisons keeps that those before it spoil nothing, and each turn adds one or ends.
 -- The measure is what is left of the row. Assumes nothing.
 use mathlib.Core.Logic.{⊎-elim}
-use mathlib.Core.Path.{_≡_}
+use mathlib.Core.Path.{_≡_, sym, _∙_}
 use Prim.Native.Nat.{ℕ, _+_, _-_, _≤_, _<_}
 use native.Mathlib.Omega.{arith}
 use borrow.Author.Tests.{leb-true, leb-false, eqb-true, eqb-false, not-true, not-false}
 use lib.ListN.{length, getD}
 use Rattle.steps.proofs.Rows.{row-few}
-use Rattle.steps.proofs.Text.{span-length}
+use Rattle.steps.proofs.Text.{span-ends}
 use Rattle.steps.specs.Steps.{row}
 use Rattle.alignments.proofs.Shifts.{pattern-taken}
 use Rattle.alignments.specs.Laid.{Row-ready}
@@ -65,31 +65,34 @@ module _ (c : Position) where
   small :
       let a = start (turn c) .args in
       (c .before .row-entry .result < length (a .pattern .now))
-      × (y < length (a .text .now))
+      × (a .here .position < length (a .text .now))
       × (length (a .text .now) ≤ 16384)
       × (a .here .position ≤ a .b)
       × (index ≤ a .agreed)
+      × (length (a .pattern .now) ≤ 128)
   small =
       let a = start (turn c) .args in
       let (r, (laid, (ended, before))) = start (turn c) .pre in
       let inside = below (r .taken) (a .here) ended (a .b) (turn c .loop .inv) in-row at in
       let entry = c .before .row-entry .ensures in (
         omega arith,
-        omega (arith, laid .inside, span-length (a .pattern .now) (a .text .now)),
+        span-ends (a .pattern .now) (a .text .now) (r .taken .some) (a .here .position) (laid .inside),
         r .taken .text,
         before,
         leb-true index (a .agreed) (c .before .before .if1 .taken),
+        r .taken .few,
       )
 
 -- a comparison spoils b
 returns : tie.Need-returns Inv-loop μ-loop
 returns c =
-    let here = c .before .before .before in
+    let seen = c .before .before in
+    let here = seen .before in
     let q = here .before in
     let a = start (turn q) .args in
     let (r, (laid, (ended, before))) = start (turn q) .pre in
     spoils-here (r .taken) (a .here) ended (a .b) (turn q .loop .inv) (in-row q) (at q) (small q .4) before (here .if2 .taken)
-    (eqb-false _ _ (not-true _ (c .if3 .taken)))
+    (λ e. eqb-false _ _ (not-true _ (c .if3 .taken)) (seen .byte-at .ensures ∙ e))
 
 -- or not
 loop-again : tie.Need-loop-again Inv-loop μ-loop
@@ -98,7 +101,7 @@ loop-again c =
     let a = start (turn q) .args in
     let (r, (laid, (ended, before))) = start (turn q) .pre in
     clear-more (r .taken) (a .here) ended (a .b) (turn q .loop .inv) (in-row q) (at q)
-    (λ low. ⊎-elim (λ x. eqb-true _ _ (not-false _ (x .3 .left))) (λ x. absurd (omega (arith, x .left))) (c .if2 .came))
+    (λ low. ⊎-elim (λ x. sym (x .1 .ensures) ∙ eqb-true _ _ (not-false _ (x .3 .left))) (λ x. absurd (omega (arith, x .left))) (c .if2 .came))
 
 -- all are clear, since the row or what was compared ends
 returns-2 : tie.Need-returns-2 Inv-loop μ-loop
@@ -127,7 +130,7 @@ spoilt-by-spec =
     let t = c .before .before in
     (pattern-taken (ready t .taken), (ready t .order-ready, omega (arith, c .before .loop-test .taken, count-is t))))
     (λ c. omega (arith, small c))
-    (λ c. small (c .before .before) .1)
+    (λ c κs. omega (arith, small (c .before)))
     (λ c. omega (arith, small (c .before .before .before)))
     returns
     (λ c. omega (arith, in-row (c .before), few-entries (turn (c .before))))

@@ -1,0 +1,4 @@
+pub mod Back
+pub mod Ascending
+pub mod Listed
+pub mod Occurrences

@@ -1,0 +1,16 @@
+-- What is promised of the occurrences in a ring: it is a type, and its proof is in proofs/ (docs/PROMISES.md). These are definitions.
+use mathlib.Core.List.{List}
+use mathlib.Core.Path.{_≡_}
+use Prim.Native.Nat.{ℕ, _+_, _%_, _≤_}
+use lib.Dec.{eqb}
+use lib.ListN.{length}
+use Rattle.tables.specs.Least.{all-from}
+use Rattle.tables.specs.Sets.{byte}
+use Rattle.steps.specs.Occurrences.{occurrences}
+use Rattle.ring.specs.Ring.{passing}
+
+-- the occurrences (finds) are the b from 0 to n - 1 with t((b + j) modulo n) = w(j) for each j from 0 to m - 1, each once and ascending
+unfoldable pub Occurrences-around : Type 0
+Occurrences-around =
+    (w t : List ℕ) → 1 ≤ length w →
+    occurrences w t ≡ passing (length t) 0 (λ b. all-from (length w) 0 (λ j. eqb (byte t ((b + j) % length t)) (byte w j)))
