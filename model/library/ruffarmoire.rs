@@ -361,9 +361,9 @@ pub fn price(
     }
 }
 
-/// Explains a position of the text, in numbers. The buffers are for the tables of the pattern, as
-/// in `prepare`: for m bytes at least m + 1 entries each of `order` and `delta2`, 256 m of `delta1`
-/// and m of `delta3`.
+/// Explains a position of the text, which may be any below n, in numbers. The buffers are for the
+/// tables of the pattern, as in `prepare`: for m bytes at least m + 1 entries each of `order` and
+/// `delta2`, 256 m of `delta1` and m of `delta3`.
 pub fn explain(
     position: u32,
     pattern: &[u8],
@@ -394,8 +394,8 @@ pub fn explain(
 }
 
 /// Explains a position of the text as `explain` does, with the same buffers. The explanation comes
-/// as an enum beside its position, or else the refusal. `to_string` of either is for a minder to
-/// read.
+/// as an enum beside its position and the length of the text, or else the refusal. `to_string` of
+/// either is for a minder to read; a position over the seam stands there with the number of its card.
 pub fn explained(
     position: u32,
     pattern: &[u8],
@@ -406,5 +406,5 @@ pub fn explained(
     delta3: &mut [u16],
 ) -> Result<Explained, Unexplained> {
     let answer = explain(position, pattern, text, order, delta2, delta1, delta3);
-    Explained::told(position, answer)
+    Explained::told(position, text.len(), answer)
 }

@@ -21,7 +21,7 @@ pub enum Refusal {
     Way,
     /// 9: frames that are no conversion under this pattern and hold offset.
     NoConversion,
-    /// 10: a position b with b + m above n.
+    /// 10: a position that is not below n.
     Position,
 }
 
@@ -57,7 +57,7 @@ pub struct Answer {
     pub ones: u32,
     /// p, the period of the pattern.
     pub period: u32,
-    /// The bound of demand 3 on C: 0 for a text that is shorter than the pattern.
+    /// The bound of demand 3 on C: 0 for an empty text.
     pub bound: u32,
 }
 

@@ -472,11 +472,10 @@ fn try_explain(
     text: &[u8],
     lengths: TableLengths,
 ) -> Result<ExplainOutcome, Refusal> {
-    let (m, n) = (pattern.len(), text.len());
-    check_pattern_length(m)?;
-    check_text_length(n)?;
-    lengths.check(m)?;
-    check_position(position as usize, m, n)?;
+    check_pattern_length(pattern.len())?;
+    check_text_length(text.len())?;
+    lengths.check(pattern.len())?;
+    check_position(position as usize, text.len())?;
     let tables = Tables::of(pattern);
     let done = steps::search_with(&tables, pattern, text);
     Ok(ExplainOutcome {

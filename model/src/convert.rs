@@ -1,25 +1,26 @@
 //! Occurrences by their meaning, frames and ones.
 
+use crate::ring::byte_at;
+
 /// The frame that is a hold. The frames 0 to 255 are moves.
 pub const HOLD: u16 = 256;
 
-/// The positions b with b + m at most n and t(b + j) = w(j) for each j from 0 to m - 1, ascending.
+/// The positions b below n with w(j) at b + j for each j from 0 to m - 1, ascending.
 pub fn occurrences(pattern: &[u8], text: &[u8]) -> Vec<usize> {
-    let m = pattern.len();
-    (0..=text.len())
-        .filter(|b| b + m <= text.len() && (0..m).all(|j| text[b + j] == pattern[j]))
+    (0..text.len())
+        .filter(|b| (0..pattern.len()).all(|j| byte_at(text, b + j) == pattern[j]))
         .collect()
 }
 
-/// The positions b + q, in the order of the occurrences b.
+/// The positions (b + q) modulo n, in the order of the occurrences b.
 pub fn holds(pattern: &[u8], hold: usize, text: &[u8]) -> Vec<usize> {
     occurrences(pattern, text)
         .into_iter()
-        .map(|b| b + hold)
+        .map(|b| (b + hold) % text.len())
         .collect()
 }
 
-/// Each byte as a move, then frame b + q as a hold for every occurrence b.
+/// Each byte as a move, then frame (b + q) modulo n as a hold for every occurrence b.
 pub fn frames(pattern: &[u8], hold: usize, text: &[u8]) -> Vec<u16> {
     let mut frames: Vec<u16> = text.iter().map(|&byte| u16::from(byte)).collect();
     for position in holds(pattern, hold, text) {

@@ -1,17 +1,18 @@
 //! Why a position of the text is an occurrence or is none, by what a search did.
 //!
 //! What `explain` answers, the library's or the model's, is numbers. [`Explained::told`] reads
-//! them, together with the position that was asked for. What it gives can be matched on, and
-//! `to_string` makes a sentence of it, or of the refusal. That is read by minders, so it has the
-//! documents' words: card, motif, chain, find and look, and place for a position.
+//! them, together with the position that was asked for and the length of the text. What it gives can
+//! be matched on, and `to_string` makes a sentence of it, or of the refusal. That is read by minders,
+//! so it has the documents' words: card, motif, chain, find and look, and place for a position.
 
 use std::error::Error;
 use std::fmt::{self, Display, Formatter};
 
 use crate::answers::{Answer, ExplainAnswer, Refusal};
+use crate::ring::byte_at;
 use crate::steps::{Alignment, Comparison, Search};
 
-/// What a search did about a position of the text where the pattern fits.
+/// What a search did about a position of the text.
 #[derive(Clone, Copy, Debug, PartialEq, Eq)]
 pub enum Explanation {
     /// The position is an occurrence.
@@ -26,7 +27,8 @@ pub enum Explanation {
         /// The position that the pattern was shifted from.
         from: usize,
         /// The pattern's position j that the earliest comparison spoils: text position b + j was
-        /// compared, and its byte is not w(j).
+        /// compared, and its byte is not w(j). The same byte of the ring compared at another
+        /// position does not count.
         place: usize,
         /// What kind of shift went past.
         kind: ShiftKind,
@@ -76,16 +78,16 @@ impl ShiftKind {
     }
 }
 
-/// Refusal 10: position b, a pattern of m bytes and a text of n, with b + m above n.
-pub fn check_position(b: usize, m: usize, n: usize) -> Result<(), Refusal> {
-    if b + m > n {
-        Err(Refusal::Position)
-    } else {
+/// Refusal 10: a position b that is not below n.
+pub fn check_position(b: usize, n: usize) -> Result<(), Refusal> {
+    if b < n {
         Ok(())
+    } else {
+        Err(Refusal::Position)
     }
 }
 
-/// The explanation of position b, with b + m at most n. `done` is the search of the text for the
+/// The explanation of position b, which is below n. `done` is the search of the text for the
 /// pattern, by [`search`](crate::steps::search).
 pub fn explanation(done: &Search, pattern: &[u8], text: &[u8], b: usize) -> Explanation {
     let m = pattern.len();
@@ -101,7 +103,7 @@ pub fn explanation(done: &Search, pattern: &[u8], text: &[u8], b: usize) -> Expl
     let last = last.expect("where the pattern was never laid, it was shifted past");
     let spoils = |made: &&Comparison| {
         let x = made.text_position;
-        b <= x && x < b + m && text[x] != pattern[x - b]
+        b <= x && x < b + m && byte_at(text, x) != pattern[x - b]
     };
     let earliest = done.comparisons.iter().find(spoils);
     let earliest = earliest.expect("a position that is passed over is spoilt");
@@ -200,17 +202,52 @@ impl TryFrom<ExplainAnswer> for Explanation {
 pub struct Explained {
     /// b
     pub position: usize,
+    /// n
+    pub text_length: usize,
     pub explanation: Explanation,
 }
 
 impl Explained {
-    /// What the answer of `explain` tells of the position that it was asked for; or that it was
-    /// refused.
-    pub fn told(position: u32, answer: ExplainAnswer) -> Result<Explained, Unexplained> {
+    /// What the answer of `explain` tells of the position that it was asked for, in a text of this
+    /// length; or that it was refused.
+    pub fn told(
+        position: u32,
+        text_length: usize,
+        answer: ExplainAnswer,
+    ) -> Result<Explained, Unexplained> {
         Ok(Explained {
             position: position as usize,
+            text_length,
             explanation: answer.try_into()?,
         })
+    }
+
+    /// The text's position under a position of the pattern.
+    fn under(&self, place: usize) -> ChainPlace {
+        ChainPlace {
+            place: self.position + place,
+            cards: self.text_length,
+        }
+    }
+}
+
+/// A position of the text as a minder reads it: where it is n or more, with the number of the byte
+/// that lies there.
+struct ChainPlace {
+    place: usize,
+    cards: usize,
+}
+
+impl Display for ChainPlace {
+    fn fmt(&self, formatter: &mut Formatter) -> fmt::Result {
+        let ChainPlace { place, cards } = self;
+        match place.checked_rem(*cards) {
+            Some(card) if card < *place => write!(
+                formatter,
+                "chain place {place} (card number {card}, over the seam)"
+            ),
+            _ => write!(formatter, "chain place {place}"),
+        }
     }
 }
 
@@ -237,8 +274,8 @@ impl Display for Explained {
             Explanation::Tried { place } => write!(
                 formatter,
                 "Tried: the motif was laid at chain place {b}, and the look at motif place {place} \
-                 differed: chain place {} has another card.",
-                b + place
+                 differed: {} has another card.",
+                self.under(place)
             ),
             Explanation::PassedOver { from, place, kind } => {
                 let cause = match kind {
@@ -251,8 +288,8 @@ impl Display for Explained {
                     formatter,
                     "Passed over ({kind}): at chain place {from} the motif {cause}, and from there \
                      it was shifted past chain place {b}. The earliest look that rules place {b} \
-                     out was at chain place {}: its card is not that of motif place {place}.",
-                    b + place
+                     out was at {}: its card is not that of motif place {place}.",
+                    self.under(place)
                 )
             }
         }

@@ -1,11 +1,11 @@
-//! A plain model of document 01 and of document 02's requests U1, U2, U3 and U5 to U8, written from
+//! A plain model of document 01 and of document 02's requests U1, U2, U3 and U5 to U9, written from
 //! these documents alone; U4 changes no answer.
 //!
-//! It follows the definitions word by word and takes no short cuts: the tables by their sets, the
-//! occurrences by their meaning, the search by its steps with every comparison written down, a
-//! mirrored byte by its bits, frames put back by converting again, a price byte by byte over the
-//! frames, an explanation by all alignments and comparisons of the search. It shares no code and no
-//! table with the library that it is compared with.
+//! It follows the definitions word by word and takes no short cuts: the tables by their sets, a byte
+//! of the ring by its number modulo n, the occurrences by their meaning, the search by its steps with
+//! every comparison written down, a mirrored byte by its bits, frames put back by converting again, a
+//! price byte by byte over the frames, an explanation by all alignments and comparisons of the search.
+//! It shares no code and no table with the library that it is compared with.
 //!
 //! The documents have trade words for the things of this field. Here they go by the field's names:
 //!
@@ -13,7 +13,7 @@
 //! |-----------------|-----------------------------|
 //! | card            | byte                        |
 //! | motif w         | pattern                     |
-//! | chain t         | text                        |
+//! | chain t, a ring | text                        |
 //! | hold place q    | hold offset                 |
 //! | find            | occurrence                  |
 //! | look            | comparison                  |
@@ -44,6 +44,7 @@ pub mod gen;
 pub mod job;
 pub mod price;
 pub mod restore;
+pub mod ring;
 pub mod seek;
 pub mod steps;
 pub mod tables;

@@ -1,5 +1,6 @@
 //! The steps of a search, with every alignment and every comparison.
 
+use crate::ring::{byte_at, span};
 use crate::tables::Tables;
 
 /// A comparison of the pattern's byte at one position with the text's byte at another.
@@ -7,7 +8,7 @@ use crate::tables::Tables;
 pub struct Comparison {
     /// i
     pub pattern_position: usize,
-    /// b + i
+    /// b + i, which may be n or more: the text is a ring.
     pub text_position: usize,
 }
 
@@ -42,7 +43,8 @@ pub fn search(pattern: &[u8], text: &[u8]) -> Search {
 
 /// Runs the steps with the tables of the pattern, for one who has them at hand.
 pub fn search_with(tables: &Tables, pattern: &[u8], text: &[u8]) -> Search {
-    let (m, n) = (pattern.len(), text.len());
+    let m = pattern.len();
+    let end = span(m, text.len());
     let mut run = Run {
         tables,
         pattern,
@@ -51,7 +53,7 @@ pub fn search_with(tables: &Tables, pattern: &[u8], text: &[u8]) -> Search {
     };
     let (mut b, mut s) = (0, m);
     let mut is_repeat = false;
-    while b + m <= n {
+    while b + m <= end {
         let outcome = if is_repeat {
             run.repeat_alignment(b)
         } else {
@@ -98,7 +100,7 @@ impl Run<'_> {
         if !self.compare(b, m - 1) {
             return Outcome {
                 differing: Some(m - 1),
-                shift: self.tables.delta1(self.text[b + m - 1], s),
+                shift: self.tables.delta1(byte_at(self.text, b + m - 1), s),
             };
         }
         let mut i = 2;
@@ -120,32 +122,33 @@ impl Run<'_> {
             differing,
             shift: match differing {
                 None => p,
-                Some(i) if i == m - 1 => self.tables.delta1(self.text[b + m - 1], p),
+                Some(i) if i == m - 1 => self.tables.delta1(byte_at(self.text, b + m - 1), p),
                 Some(i) => self.tables.delta3(i),
             },
         }
     }
 
-    /// Compares w(i) with t(b + i), writes the comparison down, and tells whether they agree.
+    /// Compares w(i) with the text's byte at b + i, writes the comparison down, and tells whether they
+    /// agree.
     fn compare(&mut self, b: usize, i: usize) -> bool {
         self.done.comparisons.push(Comparison {
             pattern_position: i,
             text_position: b + i,
         });
-        self.pattern[i] == self.text[b + i]
+        self.pattern[i] == byte_at(self.text, b + i)
     }
 }
 
-/// The bound of demand 3 on the comparisons of a search with h occurrences: 2 n less m, and where m
-/// is below 3 p, for each occurrence what the pattern has beyond twice its period. A text that is
-/// shorter than the pattern has no comparisons, and the bound is 0.
+/// The bound of demand 3 on the comparisons of a search with h occurrences: twice the span less m, and
+/// where m is below 3 p, for each occurrence what the pattern has beyond twice its period. An empty
+/// text has no comparisons, and the bound is 0.
 pub fn bound(tables: &Tables, n: usize, h: usize) -> usize {
-    let m = tables.m;
-    if n < m {
+    let (m, span) = (tables.m, span(tables.m, n));
+    if n == 0 {
         0
     } else if tables.is_long_repeat() {
-        2 * n - m
+        2 * span - m
     } else {
-        2 * n - m + h * m.saturating_sub(2 * tables.period)
+        2 * span - m + h * m.saturating_sub(2 * tables.period)
     }
 }

@@ -87,11 +87,14 @@ pub fn turned_hold(way: Way, hold: usize, m: usize) -> usize {
     }
 }
 
-/// The occurrences of a pattern of m bytes in a text of n that are turned alike, ascending.
+/// The occurrences of a pattern of m bytes in a text of n that are turned alike, ascending: where the
+/// order is reversed, (n - m - b) modulo n for each occurrence b.
 pub fn turned_occurrences(way: Way, occurrences: &[usize], m: usize, n: usize) -> Vec<usize> {
     let mut turned = occurrences.to_vec();
     if way.reverses() {
-        turned = turned.into_iter().map(|b| n - m - b).collect();
+        let (m, n) = (m as isize, n as isize);
+        let reversed = |b: usize| (n - m - b as isize).rem_euclid(n) as usize;
+        turned = turned.into_iter().map(reversed).collect();
         turned.sort();
     }
     turned

@@ -12,12 +12,12 @@ use common::job_suite::JobCalls;
 use common::matcher_suite::MatcherCalls;
 use common::prepare_suite::PrepareCalls;
 use common::price_suite::PriceCalls;
-use common::repeats;
 use common::report_suite::ReportCalls;
 use common::restore_suite::RestoreCalls;
 use common::searches;
 use common::table_buffers::{entries, LentTables};
 use common::turn_suite::TurnCalls;
+use common::{repeats, rings};
 use ruffarmoire_model::answers::{
     Answer, ExplainAnswer, PriceAnswer, ReadAnswer, ReportAnswer, TurnAnswer, WriteAnswer,
 };
@@ -207,7 +207,10 @@ fn occurrences_alone() {
         .chain(searches::longer())
         .chain(searches::structured())
         .chain(searches::about_as_long())
-        .chain(repeats::mixed());
+        .chain(repeats::mixed())
+        .chain(rings::short())
+        .chain(rings::longer())
+        .chain(rings::largest());
     for (pattern, text) in all {
         let expected = entries(&convert::occurrences(&pattern, &text));
         let mut found = vec![0; text.len()];

@@ -7,7 +7,7 @@ use std::collections::{BTreeMap, BTreeSet};
 use common::explanations::{Compared, LastTables, Seen};
 use common::searches::{self, Pair};
 use common::words::words;
-use common::{bounds, facts, repeats};
+use common::{bounds, facts, repeats, rings};
 use ruffarmoire_model::answers::{Answer, ExplainAnswer, Refusal};
 use ruffarmoire_model::calls::{self, TableLengths};
 use ruffarmoire_model::convert;
@@ -23,7 +23,7 @@ use ruffarmoire_model::turn::{
     mirrored, turned_bytes, turned_frames, turned_job, turned_occurrences, Way, WAYS,
 };
 
-/// The steps find what occurs, within the bound.
+/// The steps find what occurs, by its meaning and in the ring's row, within the bound.
 fn check_search(tables: &Tables, pattern: &[u8], text: &[u8]) -> Search {
     let done = search_with(tables, pattern, text);
     let context = || format!("pattern {pattern:?}, text {text:?}");
@@ -33,6 +33,13 @@ fn check_search(tables: &Tables, pattern: &[u8], text: &[u8]) -> Search {
         "{}",
         context()
     );
+    assert_eq!(
+        done.occurrences,
+        rings::occurrences(pattern, text),
+        "{}",
+        context()
+    );
+    check_comparisons(&done, pattern, text);
     let (n, h) = (text.len(), done.occurrences.len());
     let bound = bound(tables, n, h);
     assert!(done.comparisons.len() <= bound, "{}", context());
@@ -45,9 +52,30 @@ fn check_search(tables: &Tables, pattern: &[u8], text: &[u8]) -> Search {
     done
 }
 
-/// A text that agrees with the first one wherever the search compared has the same comparisons in
+/// Each alignment is below n and has the comparisons from its own position on, each of which agrees in
+/// the ring's row but for the one that is told to differ.
+fn check_comparisons(done: &Search, pattern: &[u8], text: &[u8]) {
+    let row = rings::row(text, pattern.len());
+    let mut rest = done.comparisons.iter().peekable();
+    for laid in &done.alignments {
+        assert!(laid.position < text.len());
+        let mut differing = None;
+        while let Some(made) =
+            rest.next_if(|made| made.text_position - made.pattern_position == laid.position)
+        {
+            assert_eq!(differing, None);
+            if row[made.text_position] != pattern[made.pattern_position] {
+                differing = Some(made.pattern_position);
+            }
+        }
+        assert_eq!(differing, laid.differing);
+    }
+    assert_eq!(rest.next(), None);
+}
+
+/// A ring that agrees with the first one on every byte that was compared has the same comparisons in
 /// the same order, the same alignments, occurrences and holds, and the same explanations. Tells whether
-/// the two texts differ.
+/// the two differ.
 fn check_pair(
     random: &mut Random,
     tables: &Tables,
@@ -58,7 +86,7 @@ fn check_pair(
     let first = check_search(tables, pattern, text);
     let mut compared = vec![false; text.len()];
     for comparison in &first.comparisons {
-        compared[comparison.text_position] = true;
+        compared[comparison.text_position % text.len()] = true;
     }
     let often = random.between(1, 4);
     let mut other = text.to_vec();
@@ -72,9 +100,9 @@ fn check_pair(
         first, second,
         "pattern {pattern:?}, texts {text:?} and {other:?}"
     );
-    // All positions of a short text, four of a long one.
-    let positions = (text.len() + 1).saturating_sub(pattern.len());
-    for b in (0..positions).step_by(if positions < 40 { 1 } else { positions / 4 + 1 }) {
+    // All positions of a short text, five of a long one.
+    let n = text.len();
+    for b in (0..n).rev().step_by(if n < 40 { 1 } else { n / 5 + 1 }) {
         assert_eq!(
             explanation(&first, pattern, text, b),
             explanation(&second, pattern, &other, b)
@@ -89,7 +117,11 @@ fn check_pair(
                 .collect()
         };
         assert_eq!(marked(text), marked(&other));
-        assert_eq!(marked(text), convert::holds(pattern, hold, text));
+        // Each occurrence has a hold of its own. In their order the holds go round.
+        let mut holds = convert::holds(pattern, hold, text);
+        assert_eq!(holds, convert::holds(pattern, hold, &other));
+        holds.sort();
+        assert_eq!(marked(text), holds);
     }
     other != text
 }
@@ -156,7 +188,7 @@ fn short_searches_and_their_pairs() {
         let tables = Tables::of(&pattern);
         different += usize::from(check_pair(&mut random, &tables, &pattern, &text, &few));
     }
-    assert!(different > 2_500, "only {different} pairs differed");
+    assert!(different > 2_000, "only {different} pairs differed");
 }
 
 #[test]
@@ -203,22 +235,49 @@ fn occurrences_as_far_on_as_each_shift_and_their_pairs() {
 }
 
 /// Of one byte throughout, two bytes are compared whole at every alignment, and meet the bound. From
-/// three on, each position of the text is compared once.
+/// three on, each position is compared once, as far as the last alignment goes.
 #[test]
 fn comparisons_of_one_byte_throughout() {
     for m in [2, 3, 5, 128] {
-        let (pattern, text) = (vec![7; m], vec![7; 300]);
+        for n in [1, 2, 127, 128, 300] {
+            let (pattern, text) = (vec![7; m], vec![7; n]);
+            let tables = Tables::of(&pattern);
+            let done = check_search(&tables, &pattern, &text);
+            assert!(done.occurrences.iter().copied().eq(0..n));
+            if m == 2 {
+                assert_eq!(done.comparisons.len(), bound(&tables, n, n));
+            } else {
+                let positions = done.comparisons.iter().map(|made| made.text_position);
+                let compared: BTreeSet<usize> = positions.collect();
+                assert!(compared.into_iter().eq(0..n + m - 1));
+                assert_eq!(done.comparisons.len(), n + m - 1);
+            }
+        }
+    }
+}
+
+/// Rings of every length up to three times the pattern's, shorter ones, nets and the largest: the steps
+/// find what occurs within the bound, and a ring that differs only where nothing was compared has the
+/// same.
+#[test]
+fn rings_and_their_pairs() {
+    let mut random = Random::seeded(17);
+    let mut different = 0;
+    let mut tables = LastTables::default();
+    let all = rings::short()
+        .chain(rings::longer())
+        .chain(rings::largest());
+    for (pattern, text) in all {
+        let mut few = pattern.clone();
+        few.push(random.byte());
+        let tables = tables.of(&pattern);
+        different += usize::from(check_pair(&mut random, tables, &pattern, &text, &few));
+    }
+    assert!(different > 400, "only {different} pairs differed");
+    for (pattern, texts) in rings::families() {
         let tables = Tables::of(&pattern);
-        let done = check_search(&tables, &pattern, &text);
-        assert_eq!(done.occurrences.len(), 300 - m + 1);
-        let bound = bound(&tables, 300, done.occurrences.len());
-        if m == 2 {
-            assert_eq!(done.comparisons.len(), bound);
-        } else {
-            let positions = done.comparisons.iter().map(|made| made.text_position);
-            let compared: BTreeSet<usize> = positions.collect();
-            assert!(compared.into_iter().eq(0..300));
-            assert_eq!(done.comparisons.len(), 300);
+        for text in texts {
+            check_search(&tables, &pattern, &text);
         }
     }
 }
@@ -324,7 +383,9 @@ fn frames_hold_at_each_occurrence() {
         let (m, n) = (random.between(1, 6), random.between(0, 30));
         let job = SHAPES[round % SHAPES.len()].job(&mut random, m, n);
         let frames = convert::frames(&job.pattern, job.hold, &job.text);
-        let holds = convert::holds(&job.pattern, job.hold, &job.text);
+        let found = rings::occurrences(&job.pattern, &job.text);
+        let holds: Vec<usize> = found.iter().map(|b| (b + job.hold) % n).collect();
+        assert_eq!(convert::holds(&job.pattern, job.hold, &job.text), holds);
         let expected: Vec<u16> = (0..n)
             .map(|position| match holds.contains(&position) {
                 true => 256,
@@ -496,6 +557,19 @@ fn all_short_jobs_turned() {
 }
 
 #[test]
+fn rings_turned() {
+    let all = rings::short().chain(rings::longer());
+    for (round, (pattern, text)) in all.enumerate() {
+        let hold = round % pattern.len();
+        check_turned(&Job {
+            pattern,
+            hold,
+            text,
+        });
+    }
+}
+
+#[test]
 fn jobs_turned() {
     let mut random = Random::seeded(9);
     for round in 0..1_200 {
@@ -551,6 +625,12 @@ fn conversions_restored() {
         let frames = convert::frames(&job.pattern, job.hold, &job.text);
         assert_eq!(restored(&job.pattern, job.hold, &frames), Ok(job.text));
     }
+    let all = rings::short().chain(rings::longer());
+    for (round, (pattern, text)) in all.enumerate() {
+        let hold = round % pattern.len();
+        let frames = convert::frames(&pattern, hold, &text);
+        assert_eq!(restored(&pattern, hold, &frames), Ok(text));
+    }
 }
 
 /// Before the rebate a job costs what its bytes cost without holds, and 40 for each occurrence, with
@@ -585,6 +665,9 @@ fn totals_by_occurrences() {
     }
     let (pattern, text) = Shape::Planted.pattern_and_text(&mut random, 5, 16_384);
     check_total(&pattern, &text);
+    for (pattern, text) in rings::short() {
+        check_total(&pattern, &text);
+    }
 }
 
 /// The rebate is the most whole pence that are no more than 5 in 100, for every total that there can
@@ -675,6 +758,14 @@ fn explanations_of_generated_texts() {
     check_explanations(short);
 }
 
+/// Rings of every length up to three times the pattern's, shorter ones, and nets.
+#[test]
+fn explanations_of_rings() {
+    check_explanations(rings::short()).expect_every_case(30);
+    check_explanations(rings::longer());
+    check_explanations(rings::largest().step_by(3));
+}
+
 /// Runs of a period broken at every position, with any end, and mixed.
 #[test]
 fn explanations_of_long_repeats() {
@@ -712,7 +803,7 @@ fn explanations_in_answers() {
         let done = search_with(&Tables::of(&pattern), &pattern, &text);
         for b in 0..=text.len() {
             let outcome = calls::explain(b as u32, &pattern, &text, lengths);
-            if b + pattern.len() > text.len() {
+            if b == text.len() {
                 assert_eq!(outcome.answer, Refusal::Position.into());
                 assert_eq!(outcome.left, Refusal::Position.into());
                 continue;

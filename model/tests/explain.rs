@@ -41,6 +41,22 @@ fn explained_in_sentences() {
              chain place 6 has another card."
         )
     );
-    assert_eq!(said(5), Err(Unexplained::Refused(10)));
+    assert_eq!(
+        said(7).as_deref(),
+        Ok(
+            "Tried: the motif was laid at chain place 7, and the look at motif place 4 differed: \
+             chain place 11 (card number 2, over the seam) has another card."
+        )
+    );
+    assert_eq!(
+        said(8).as_deref(),
+        Ok(
+            "Passed over (last card): at chain place 7 the motif differed in its last card, and from \
+             there it was shifted past chain place 8. The earliest look that rules place 8 out was at \
+             chain place 11 (card number 2, over the seam): its card is not that of motif place 3."
+        )
+    );
+    assert_eq!(said(9), Err(Unexplained::Refused(10)));
+    assert_eq!(said(10), Err(Unexplained::Refused(10)));
     assert_eq!(said(u32::MAX), Err(Unexplained::Refused(10)));
 }

@@ -19,7 +19,7 @@ use std::time::Duration;
 use common::bounds;
 use common::examples::example_jobs;
 use common::files::{largest_job, small_job, spoiled_files};
-use common::repeats;
+use common::{repeats, rings};
 use ruffarmoire_model::gen::{Random, SHAPES};
 use ruffarmoire_model::job::{self, Job};
 use ruffarmoire_model::seek::seek;
@@ -141,7 +141,7 @@ fn check_job(job: &Job, way: Way) {
 #[test]
 fn listing() {
     let file = b"0105020009\n06\n06\n18\n06\n06\n06\n06\n18\n06\n06\n06\n18\n06\n06\n";
-    let printed = b"0002\n0000000C\n00000012\n0003\n0000000D\n0000\n0004\n\
+    let printed = b"0002\n0000000D\n00000012\n0003\n00000015\n0000\n0004\n\
                     0006\n0006\n0100\n0006\n0006\n0006\n0100\n0006\n0006\n";
     for way in [Way::File, Way::Pipe, Way::Pieces(1)] {
         assert_eq!(run(file, way), printed);
@@ -187,6 +187,22 @@ fn longer_jobs() {
 #[test]
 fn long_repeats() {
     for (round, (pattern, text)) in repeats::mixed().step_by(9).enumerate() {
+        let hold = round % pattern.len();
+        let job = Job {
+            pattern,
+            hold,
+            text,
+        };
+        check_job(&job, [Way::File, Way::Pipe][round % 2]);
+    }
+}
+
+#[test]
+fn rings() {
+    let pairs = rings::short()
+        .step_by(53)
+        .chain(rings::largest().step_by(9));
+    for (round, (pattern, text)) in pairs.enumerate() {
         let hold = round % pattern.len();
         let job = Job {
             pattern,

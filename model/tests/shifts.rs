@@ -88,15 +88,22 @@ fn check_groups(tables: &Tables, pattern: &[u8]) -> usize {
 }
 
 /// Where h(i) is the first that differs, the steps make i comparisons, and then m at the occurrence that
-/// Δ2(i) leads to.
+/// Δ2(i) leads to, which is the first.
 fn check_steps(tables: &Tables, pattern: &[u8]) {
     for i in 2..=tables.m {
         let shift = tables.delta2(i);
         let text = Facts::of_delta2(tables, i).laid_at(pattern, shift);
         let done = search_with(tables, pattern, &text);
         let context = || format!("Δ2({i}), pattern {pattern:?}");
-        assert_eq!(done.occurrences, [shift], "{}", context());
-        assert_eq!(done.comparisons.len(), i + tables.m, "{}", context());
+        let laid: Vec<usize> = done.alignments.iter().map(|laid| laid.position).collect();
+        assert_eq!(laid[..2], [0, shift], "{}", context());
+        assert_eq!(done.occurrences[0], shift, "{}", context());
+        let positions = done
+            .comparisons
+            .iter()
+            .map(|made| made.text_position - made.pattern_position);
+        let count = positions.filter(|&b| b <= shift).count();
+        assert_eq!(count, i + tables.m, "{}", context());
     }
 }
 

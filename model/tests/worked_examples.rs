@@ -67,8 +67,8 @@ fn example_3_shift_after_the_last_byte() {
 fn example_4_two_occurrences() {
     let pattern = [A, A, C, A, A];
     let text = [A, A, C, A, A, A, C, A, A];
-    check_search(&pattern, &text, &[0, 4], 12);
-    assert_eq!(bound(&Tables::of(&pattern), text.len(), 2), 13);
+    check_search(&pattern, &text, &[0, 4], 13);
+    assert_eq!(bound(&Tables::of(&pattern), text.len(), 2), 21);
 }
 
 #[test]
@@ -83,7 +83,7 @@ fn example_6_one_byte() {
 
 #[test]
 fn example_7_overlapping_occurrences() {
-    check_search(&[A; 4], &[A; 6], &[0, 1, 2], 6);
+    check_search(&[A; 4], &[A; 6], &[0, 1, 2, 3, 4, 5], 9);
 }
 
 #[test]
@@ -93,7 +93,7 @@ fn example_8_one_byte_twice() {
 
 #[test]
 fn example_9_text_shorter_than_the_pattern() {
-    check_search(&[A, A], &[A], &[], 0);
+    check_search(&[A, A], &[A], &[0], 2);
 }
 
 #[test]
@@ -145,9 +145,9 @@ fn answers_of_the_calls() {
     let prepared = calls::prepare(&pattern, lengths);
     expect(prepared.answer, [0, 0, 0, 3, 0]);
     let searched = calls::search(&pattern, &text, lengths, 9);
-    expect(searched.answer, [2, 12, 0, 3, 13]);
+    expect(searched.answer, [2, 13, 0, 3, 21]);
     let converted = calls::convert(2, &pattern, &text, lengths, 9, 9);
-    expect(converted.answer, [2, 12, 18, 3, 13]);
+    expect(converted.answer, [2, 13, 18, 3, 21]);
     expect(calls::count_ones(&text), [0, 0, 18, 0, 0]);
     expect(calls::read_job(LISTING, 5, 9).answer.answer, [0; 5]);
     let written = calls::write_job(2, &pattern, &text, LISTING.len());
@@ -196,7 +196,7 @@ fn refused_answers() {
         (calls::explain(0, &[], &text, enough).answer.answer, 4),
         (calls::explain(0, &pattern, &long, enough).answer.answer, 6),
         (calls::explain(0, &pattern, &text, short).answer.answer, 7),
-        (calls::explain(3, &pattern, &text, enough).answer.answer, 10),
+        (calls::explain(6, &pattern, &text, enough).answer.answer, 10),
     ] {
         let expected = Answer {
             status,
@@ -249,7 +249,7 @@ fn layout_of_answers() {
 
 #[test]
 fn seek_listing() {
-    let printed = "0002\n0000000C\n00000012\n0003\n0000000D\n0000\n0004\n\
+    let printed = "0002\n0000000D\n00000012\n0003\n00000015\n0000\n0004\n\
                    0006\n0006\n0100\n0006\n0006\n0006\n0100\n0006\n0006\n";
     assert_eq!(seek::seek(LISTING), printed);
     let job = Job {
@@ -327,10 +327,11 @@ fn slips_are_seen() {
     let pattern = [A, A, C, A, A];
     assert_ne!(delta1(&pattern, C, 2), delta1(&pattern, C, 5));
     // A text whose holds were marked in it would have lost its second occurrence.
-    let mut marked = vec![A, A, A];
+    let text = [A, A, A, C];
+    let mut marked = text;
     marked[1] = 0;
-    assert_eq!(convert::occurrences(&[A, A], &[A, A, A]), [0, 1]);
-    assert_eq!(convert::frames(&[A, A], 1, &[A, A, A]), [6, 256, 256]);
+    assert_eq!(convert::occurrences(&[A, A], &text), [0, 1]);
+    assert_eq!(convert::frames(&[A, A], 1, &text), [6, 256, 256, 0x18]);
     assert_eq!(convert::occurrences(&[A, A], &marked), []);
 }
 
@@ -364,7 +365,7 @@ fn longest_steps() {
     // 2 nothing is compared, where position 0 would lie on an a that was seen.
     let text = [C, C, A, C, A, C, B, A, A, A];
     check_search(&[C, B, A, A, A], &text, &[5], 8);
-    assert_eq!(bound(&Tables::of(&[C, B, A, A, A]), text.len(), 1), 15);
+    assert_eq!(bound(&Tables::of(&[C, B, A, A, A]), text.len(), 1), 23);
 }
 
 /// Document 02, "Long repeats": the shifts, and two occurrences that share a byte.
@@ -378,17 +379,45 @@ fn long_repeats() {
     assert_eq!(tables.delta3, [0, 0, 0, 0, 0, 0, 0, 0, 9, 7, 0]);
     assert_eq!(tables.delta2, [0, 1, 3, 3, 3, 6, 6, 6, 9, 9, 9, 3]);
     // The first occurrence has 11 comparisons. Three on, position 10 agrees and 9 differs: 2. Seven
-    // on is the second occurrence: 11.
+    // on is the second occurrence: 11. Three on, position 10 lies on byte 2 over the seam, a c: 1. The
+    // shift is 8, to the end.
     let text = [&pattern[..], &pattern[1..]].concat();
     assert_eq!(text.len(), 21);
-    check_search(&pattern, &text, &[0, 10], 24);
-    assert_eq!(bound(&tables, 21, 2), 31);
+    check_search(&pattern, &text, &[0, 10], 25);
+    assert_eq!(bound(&tables, 21, 2), 51);
     // A further period has its 3 bytes compared; where its last byte differs, one comparison is
-    // made.
+    // made, as three on, where position 10 lies on byte 2 over the seam.
     let text = [&pattern[..], &[C, A, A]].concat();
-    check_search(&pattern, &text, &[0, 3], 11 + 3);
+    check_search(&pattern, &text, &[0, 3], 11 + 3 + 1);
+    // Eight on from there, positions 10 and 9 lie on bytes 7 and 6 over the seam, and 0 differs.
     let text = [&pattern[..], &[C, A, C]].concat();
-    check_search(&pattern, &text, &[0], 11 + 1);
+    check_search(&pattern, &text, &[0], 11 + 1 + 3);
+    // Five periods that go round: each has its 3 bytes compared.
+    let text = [A, A, C].repeat(5);
+    check_search(&pattern, &text, &[0, 3, 6, 9, 12], 11 + 4 * 3);
+}
+
+/// Document 02, "Chains are laced into a ring".
+#[test]
+fn rings() {
+    // At 0 position 2 agrees and 0 differs, and the shift is 2. There the pattern lies on bytes 2, 0
+    // and 1.
+    let frames = |pattern: &[u8], hold: usize, text: &[u8]| convert::frames(pattern, hold, text);
+    check_search(&[A, C, A], &[C, A, A], &[2], 5);
+    assert_eq!(frames(&[A, C, A], 0, &[C, A, A]), [0x18, 6, 256]);
+    assert_eq!(frames(&[A, C, A], 1, &[C, A, A]), [256, 6, 6]);
+    assert_eq!(frames(&[A, C, A], 2, &[C, A, A]), [0x18, 256, 6]);
+    // In the order of the occurrences the holds go round.
+    assert_eq!(convert::holds(&[A; 4], 3, &[A; 6]), [3, 4, 5, 0, 1, 2]);
+    // A pattern that goes round twice and a half.
+    check_search(&[A, C, A, C, A], &[A, C], &[0], 5);
+    check_search(&[A, C, A, C, A], &[C, A], &[1], 6);
+    assert_eq!(frames(&[A, C, A, C, A], 3, &[C, A]), [256, 6]);
+    // One that does not go round with its ring, which is compared all the same.
+    check_search(&[A, C, A], &[A], &[], 3);
+    assert_eq!(bound(&Tables::of(&[A, C, A]), 1, 0), 3);
+    assert_eq!(bound(&Tables::of(&[A, C, A, C, A]), 2, 1), 8);
+    assert_eq!(bound(&Tables::of(&[A, C, A]), 0, 0), 0);
 }
 
 /// Δ3 is stored for the positions m - p to m - 2 of a pattern of at least three periods, and 0
@@ -418,11 +447,11 @@ fn long_repeats_begin_at_three_periods() {
     };
     assert_eq!(
         search(&[A, C, A, C, A], &[A, C, A, C, A, C, A]),
-        (2, 10, 11)
+        (2, 11, 19)
     );
-    assert_eq!(search(&[A, A], &[A; 6]), (5, 10, 10));
-    assert_eq!(search(&[A, A, A], &[A; 6]), (4, 6, 9));
-    assert_eq!(search(&[A; 4], &[A; 6]), (3, 6, 8));
+    assert_eq!(search(&[A, A], &[A; 6]), (6, 12, 12));
+    assert_eq!(search(&[A, A, A], &[A; 6]), (6, 8, 13));
+    assert_eq!(search(&[A; 4], &[A; 6]), (6, 9, 14));
 }
 
 /// Document 02, "Back to cards": the listing's frames are put back to its text.
@@ -439,21 +468,24 @@ fn frames_restored() {
     assert_eq!(restore(2, &pattern, &listing), (0, text));
     assert_eq!(restore(2, &pattern, &[]), (0, vec![]));
     assert_eq!(restore(0, &[A], &[256]), (0, vec![A]));
-    assert_eq!(
-        restore(3, &[A; 4], &[6, 6, 6, 256, 256, 256]),
-        (0, vec![A; 6])
-    );
+    assert_eq!(restore(3, &[A; 4], &[256; 6]), (0, vec![A; 6]));
     assert_eq!(restore(0, &[A], &[256, 0x18, 256]), (0, vec![A, C, A]));
-    assert_eq!(restore(0, &[A, A], &[6]), (0, vec![A]));
+    assert_eq!(restore(0, &[A, A], &[256]), (0, vec![A]));
+    assert_eq!(restore(1, &[A, C], &[256, 6, 6]), (0, vec![C, A, A]));
+    assert_eq!(restore(2, &[A, C, A], &[6]), (0, vec![A]));
 
     let refused = (9, vec![]);
     // An occurrence without its hold.
     assert_eq!(restore(2, &pattern, &[6, 6, 0x18, 6, 6]), refused);
-    assert_eq!(restore(3, &[A; 4], &[6, 6, 6, 256, 6, 256]), refused);
+    assert_eq!(restore(3, &[A; 4], &[256, 256, 256, 256, 6, 256]), refused);
+    assert_eq!(restore(3, &[A; 4], &[6, 6, 6, 256, 256, 256]), refused);
+    assert_eq!(restore(1, &[A, C], &[0x18, 6, 6]), refused);
+    assert_eq!(restore(0, &[A, A], &[6]), refused);
     // A hold without its occurrence, or another offset's.
-    assert_eq!(restore(0, &[A, A], &[256]), refused);
+    assert_eq!(restore(0, &[A, C], &[256]), refused);
     assert_eq!(restore(1, &pattern, &listing), refused);
-    assert_eq!(restore(2, &[A; 4], &[6, 6, 6, 256, 256, 256]), refused);
+    assert_eq!(restore(0, &[A, C], &[256, 6, 6]), refused);
+    assert_eq!(restore(1, &[A, C], &[256, 6, 256]), refused);
     // Numbers that are no frames.
     assert_eq!(restore(0, &[A], &[257]), refused);
     assert_eq!(restore(0, &[A], &[0x100 + 0x18]), refused);
@@ -500,9 +532,10 @@ fn prices() {
     assert_eq!(price::cost(&text, &[6, 6, 0x18, 6, 6, 6, 0x18, 6, 6]), 54);
     assert_eq!(priced(2, &pattern, &[]), 0);
     assert_eq!(priced(0, &[A], &[A]), 46);
-    assert_eq!(priced(3, &[A; 4], &[A; 6]), 156);
+    assert_eq!(priced(3, &[A; 4], &[A; 6]), 276);
     assert_eq!(priced(0, &[A], &[A, C, A]), 98);
-    assert_eq!(priced(1, &[A, A], &[A]), 6);
+    assert_eq!(priced(1, &[A, A], &[A]), 46);
+    assert_eq!(priced(1, &[A, C], &[C, A, A]), 58);
     assert_eq!(priced(0, &[A], &[0xFF, 0x00]), 18);
 }
 
@@ -566,7 +599,7 @@ fn refusals_of_pricing() {
 /// The explanation of every position of a text, as numbers: outcome, place, from, kind.
 fn check_explanations(pattern: &[u8], text: &[u8], expected: &[[u32; 4]]) {
     let lengths = TableLengths::needed(pattern.len());
-    let told: Vec<[u32; 4]> = (0..=text.len() - pattern.len())
+    let told: Vec<[u32; 4]> = (0..text.len())
         .map(|b| {
             let told = calls::explain(b as u32, pattern, text, lengths).answer;
             assert_eq!(told.answer, Answer::default());
@@ -574,8 +607,10 @@ fn check_explanations(pattern: &[u8], text: &[u8], expected: &[[u32; 4]]) {
         })
         .collect();
     assert_eq!(told, expected);
-    let beyond = calls::explain(told.len() as u32, pattern, text, lengths);
-    assert_eq!(beyond.answer.answer.status, 10);
+    for beyond in [text.len() as u32, text.len() as u32 + 1, u32::MAX] {
+        let refused = calls::explain(beyond, pattern, text, lengths);
+        assert_eq!(refused.answer.answer.status, 10);
+    }
 }
 
 const LISTED: [u32; 4] = [1, 0, 0, 0];
@@ -584,26 +619,39 @@ const LISTED: [u32; 4] = [1, 0, 0, 0];
 #[test]
 fn explanations() {
     // At 0 the comparisons are at 4, 3, 0, 1, 2. Of position 1 the one at 3 shows an a where c is
-    // due, of position 2 the one at 4. At 3 position 4 agrees and 3 differs.
+    // due, of position 2 the one at 4. At 3 position 4 agrees and 3 differs. At 4 all is as at 0, but
+    // the c at 6 was compared before the occurrence. At 7 the last byte lies on text position 11, byte
+    // 2 over the seam.
     check_explanations(
         &[A, A, C, A, A],
         &[A, A, C, A, A, A, C, A, A],
-        &[LISTED, [3, 2, 0, 3], [3, 2, 0, 3], [2, 3, 0, 0], LISTED],
+        &[
+            LISTED,
+            [3, 2, 0, 3],
+            [3, 2, 0, 3],
+            [2, 3, 0, 0],
+            LISTED,
+            [3, 2, 4, 3],
+            [3, 0, 4, 3],
+            [2, 4, 0, 0],
+            [3, 3, 7, 1],
+        ],
     );
     check_explanations(&[A], &[A], &[LISTED]);
-    check_explanations(&[A; 4], &[A; 6], &[LISTED; 3]);
+    check_explanations(&[A; 4], &[A; 6], &[LISTED; 6]);
     check_explanations(&[A], &[A, C, A], &[LISTED, [2, 0, 0, 0], LISTED]);
+    check_explanations(&[A, A], &[A], &[LISTED]);
 
     // The last byte differs, and b is not in the pattern: the shift is 2.
     check_explanations(
         &[A, C],
         &[A, B, A, C],
-        &[[2, 1, 0, 0], [3, 0, 0, 1], LISTED],
+        &[[2, 1, 0, 0], [3, 0, 0, 1], LISTED, [3, 0, 2, 3]],
     );
 
     // Positions 4 and 2 agree and 3 differs: the shift is Δ2(3) = 5. The a at text position 4
     // spoils what lays b or c there, but the a at 2 was compared after it and is the earliest that
-    // spoils 1 and 2.
+    // spoils 1 and 2. The occurrence at 5 does the same for the positions after it.
     check_explanations(
         &[C, B, A, A, A],
         &[C, C, A, B, A, C, B, A, A, A],
@@ -614,6 +662,10 @@ fn explanations() {
             [3, 1, 0, 2],
             [3, 0, 0, 2],
             LISTED,
+            [3, 1, 5, 3],
+            [3, 0, 5, 3],
+            [3, 1, 5, 3],
+            [3, 0, 5, 3],
         ],
     );
 
@@ -627,6 +679,9 @@ fn explanations() {
             [3, 2, 1, 4],
             [3, 1, 1, 4],
             [3, 0, 1, 4],
+            LISTED,
+            LISTED,
+            LISTED,
             LISTED,
         ],
     );
@@ -648,13 +703,32 @@ fn explanations() {
             [3, 0, 2, 4],
             [3, 1, 2, 4],
             LISTED,
+            [3, 4, 7, 3],
+            LISTED,
+            [3, 2, 9, 3],
+            LISTED,
+            [3, 0, 11, 3],
         ],
     );
 }
 
+/// Text positions that show the same byte of the ring are not the same: of position 2 the comparison at
+/// 0 does not count, though it saw the byte that lies at 3 too.
+#[test]
+fn explanations_over_the_seam() {
+    check_explanations(
+        &[A, A],
+        &[B, A, B],
+        &[[2, 0, 0, 0], [2, 1, 0, 0], [3, 0, 1, 1]],
+    );
+    // The pattern goes round twice. At 0 text positions 3 and 2 agree, and 0 differs.
+    check_explanations(&[A, A, C, C], &[C, C], &[[2, 0, 0, 0], [3, 1, 0, 2]]);
+}
+
 /// Two copies of a long repeat that share a byte. The first occurrence is compared at 10, 9 and
 /// then from 0 on. The repeat at 3 has position 10 agree and 9 differ, at text position 12, and its
-/// shift is Δ3(9) = 7. Of what it passes over only 6 and 9 are not spoilt by the occurrence before.
+/// shift is Δ3(9) = 7. Of what it passes over only 6 and 9 are not spoilt by the occurrence before. The
+/// repeat at 13 differs in its last byte, at text position 23.
 #[test]
 fn explanations_of_a_long_repeat() {
     let pattern = [A, A, C, A, A, C, A, A, C, A, A];
@@ -675,6 +749,16 @@ fn explanations_of_a_long_repeat() {
             [3, 2, 3, 4],
             [3, 3, 3, 4],
             LISTED,
+            [3, 2, 10, 3],
+            [3, 0, 10, 3],
+            [2, 10, 0, 0],
+            [3, 5, 13, 4],
+            [3, 5, 13, 4],
+            [3, 7, 13, 4],
+            [3, 2, 13, 4],
+            [3, 2, 13, 4],
+            [3, 4, 13, 4],
+            [3, 3, 13, 4],
         ],
     );
 }
@@ -688,31 +772,69 @@ fn explanations_by_an_earlier_alignment() {
     check_explanations(
         &[C, A, A],
         &[A, C, A, C, A],
-        &[[2, 1, 0, 0], [2, 2, 0, 0], [3, 0, 1, 1]],
+        &[
+            [2, 1, 0, 0],
+            [2, 2, 0, 0],
+            [3, 0, 1, 1],
+            LISTED,
+            [3, 0, 3, 3],
+        ],
     );
     // The same text position spoils 2 where a later comparison of the order differs at 1, and where
     // all agree there.
     check_explanations(
         &[A, C, A],
         &[A, C, C, A, A],
-        &[[2, 2, 0, 0], [2, 0, 0, 0], [3, 0, 1, 2]],
+        &[
+            [2, 2, 0, 0],
+            [2, 0, 0, 0],
+            [3, 0, 1, 2],
+            [2, 1, 0, 0],
+            [3, 1, 3, 2],
+        ],
     );
     check_explanations(
         &[C, A, A],
         &[A, C, A, A, A],
-        &[[2, 1, 0, 0], LISTED, [3, 0, 1, 3]],
+        &[
+            [2, 1, 0, 0],
+            LISTED,
+            [3, 0, 1, 3],
+            [3, 0, 1, 3],
+            [2, 2, 0, 0],
+        ],
     );
     // The first comparison of the occurrence at 0 is at text position 5, and spoils both 1 and 3:
     // where the repeat at 2 differs, and where all of it agrees.
     check_explanations(
         &[C, A, C, A, C, A],
         &[C, A, C, A, C, A, A, A, A],
-        &[LISTED, [3, 4, 0, 3], [2, 4, 0, 0], [3, 2, 2, 4]],
+        &[
+            LISTED,
+            [3, 4, 0, 3],
+            [2, 4, 0, 0],
+            [3, 2, 2, 4],
+            [3, 2, 2, 4],
+            [3, 0, 2, 4],
+            [3, 0, 2, 4],
+            [3, 0, 2, 4],
+            [2, 5, 0, 0],
+        ],
     );
     check_explanations(
         &[C, A, C, A, C, A],
         &[C, A, C, A, C, A, C, A, C],
-        &[LISTED, [3, 4, 0, 3], LISTED, [3, 2, 2, 3]],
+        &[
+            LISTED,
+            [3, 4, 0, 3],
+            LISTED,
+            [3, 2, 2, 3],
+            [2, 5, 0, 0],
+            [3, 0, 4, 4],
+            [3, 3, 4, 4],
+            [3, 0, 4, 4],
+            [3, 1, 4, 4],
+        ],
     );
 }
 
@@ -730,20 +852,22 @@ fn refusals_of_explaining() {
     };
     assert_eq!(status(0, 0, 1, enough), 4);
     assert_eq!(status(0, 128, 128, enough), 0);
-    assert_eq!(status(1, 128, 128, enough), 10);
+    assert_eq!(status(127, 128, 128, enough), 0);
+    assert_eq!(status(128, 128, 128, enough), 10);
     assert_eq!(status(0, 129, 200, enough), 4);
     assert_eq!(status(16_383, 1, 16_384, enough), 0);
     assert_eq!(status(16_384, 1, 16_384, enough), 10);
     assert_eq!(status(0, 1, 16_385, enough), 6);
     assert_eq!(status(u32::MAX, 1, 16_384, enough), 10);
     assert_eq!(status(u32::MAX - 3, 4, 16_384, enough), 10);
-    assert_eq!(status(0, 2, 1, enough), 10);
+    assert_eq!(status(0, 2, 1, enough), 0);
+    assert_eq!(status(1, 2, 1, enough), 10);
     assert_eq!(status(0, 1, 0, enough), 10);
     for m in [1, 5, 128] {
         let exact = TableLengths::needed(m);
         for short in exact.one_too_short(exact) {
             assert_eq!(status(0, m, m, short), 7);
-            assert_eq!(status(1, m, m, short), 7);
+            assert_eq!(status(m as u32, m, m, short), 7);
         }
     }
     let none = enough.changed(|_| 0);
@@ -756,13 +880,15 @@ fn refusals_of_explaining() {
 /// What a minder reads.
 #[test]
 fn sentences() {
-    let said = |position, explanation| {
+    let said_of = |text_length, position, explanation| {
         let explained = Explained {
             position,
+            text_length,
             explanation,
         };
         explained.to_string()
     };
+    let said = |position, explanation| said_of(10, position, explanation);
     let passed_over = |kind| {
         said(
             5,
@@ -806,6 +932,24 @@ fn sentences() {
          find, and from there it was shifted past chain place 5. The earliest look that rules \
          place 5 out was at chain place 9: its card is not that of motif place 4."
     );
+    // Positions over the seam have the number of their byte beside them, however often they go round.
+    assert_eq!(
+        said_of(7, 5, Explanation::Tried { place: 2 }),
+        "Tried: the motif was laid at chain place 5, and the look at motif place 2 differed: chain \
+         place 7 (card number 0, over the seam) has another card."
+    );
+    let over_the_seam = Explanation::PassedOver {
+        from: 3,
+        place: 20,
+        kind: ShiftKind::Order,
+    };
+    assert_eq!(
+        said_of(9, 5, over_the_seam),
+        "Passed over (order): at chain place 3 the motif agreed in its last card and differed in \
+         another, and from there it was shifted past chain place 5. The earliest look that rules \
+         place 5 out was at chain place 25 (card number 7, over the seam): its card is not that of \
+         motif place 20."
+    );
     assert_eq!(Unexplained::Refused(10).to_string(), "Turned away by 10.");
     assert_eq!(
         Unexplained::NoExplanation.to_string(),
@@ -823,19 +967,20 @@ fn explained_answers() {
         from,
         kind,
     };
-    let explained = |position, explanation| {
+    let explained = |position, text_length, explanation| {
         Ok(Explained {
             position,
+            text_length,
             explanation,
         })
     };
     assert_eq!(
-        Explained::told(7, told(1, 0, 0, 0)),
-        explained(7, Explanation::Listed)
+        Explained::told(7, 8, told(1, 0, 0, 0)),
+        explained(7, 8, Explanation::Listed)
     );
     assert_eq!(
-        Explained::told(7, told(2, 0, 0, 0)),
-        explained(7, Explanation::Tried { place: 0 })
+        Explained::told(7, 9, told(2, 0, 0, 0)),
+        explained(7, 9, Explanation::Tried { place: 0 })
     );
     let passed_over = Explanation::PassedOver {
         from: 0,
@@ -843,8 +988,8 @@ fn explained_answers() {
         kind: ShiftKind::LongRepeat,
     };
     assert_eq!(
-        Explained::told(u32::MAX, told(3, 2, 0, 4)),
-        explained(u32::MAX as usize, passed_over)
+        Explained::told(6, 7, told(3, 2, 0, 4)),
+        explained(6, 7, passed_over)
     );
     for answer in [
         told(0, 0, 0, 0),
@@ -856,8 +1001,12 @@ fn explained_answers() {
         told(3, 1, 1, 0),
         told(3, 1, 1, 5),
     ] {
-        assert_eq!(Explained::told(0, answer), Err(Unexplained::NoExplanation));
+        let unexplained = Err(Unexplained::NoExplanation);
+        assert_eq!(Explained::told(0, 1, answer), unexplained);
     }
     let refused = calls::explain(5, &[A], &[A], TableLengths::needed(1)).answer;
-    assert_eq!(Explained::told(5, refused), Err(Unexplained::Refused(10)));
+    assert_eq!(
+        Explained::told(5, 1, refused),
+        Err(Unexplained::Refused(10))
+    );
 }

@@ -1,4 +1,5 @@
 //! The average number of comparisons for random patterns, beside Table 1 of document 002, column RC.
+//! The table's texts end with their last byte; here the pattern comes to lie on m - 1 positions more.
 
 use ruffarmoire_model::gen::Random;
 

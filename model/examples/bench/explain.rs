@@ -80,8 +80,8 @@ fn print(kind: Kind, m: usize, pairs: &[Pair]) {
     let explaining = |call, position| explaining(pairs, call, position, &buffers);
     let [search, rattle, rust, rattle_early, rust_early] = medians([
         searching(pairs, library::search, N, &buffers),
-        explaining(library::explain, N - m),
-        explaining(explain::explain, N - m),
+        explaining(library::explain, N - 1),
+        explaining(explain::explain, N - 1),
         explaining(library::explain, EARLY),
         explaining(explain::explain, EARLY),
     ]);

@@ -57,7 +57,7 @@ fn print(kind: Kind, m: usize, n: usize, pairs: &[Pair]) {
 enum Kind {
     /// Any bytes.
     Random,
-    /// One byte throughout, in both: an occurrence at every position where the pattern fits.
+    /// One byte throughout, in both: an occurrence at every position.
     AllEqual,
 }
 

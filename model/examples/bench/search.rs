@@ -1,7 +1,8 @@
 //! Searching, beside the same algorithm in plain Rust, beside the C library's `memmem` in a loop
-//! that finds overlapping occurrences, and beside a plain scan. "Tables apart" is twice
-//! what a search takes beyond the same search of the text's first half: the tables and what a call
-//! costs by itself are in both.
+//! that finds overlapping occurrences, and beside a plain scan. These two go through the text as a row
+//! of bytes, and then through a copy of the bytes around the seam. "Tables apart" is twice
+//! what a search takes beyond the same search of the text's first half: the tables, what a call costs
+//! by itself and the alignments over the seam are in both.
 
 use std::cell::RefCell;
 use std::hint::black_box;

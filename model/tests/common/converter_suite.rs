@@ -5,6 +5,7 @@ use std::marker::PhantomData;
 
 use ruffarmoire_model::answers::Answer;
 use ruffarmoire_model::calls::{self, Outcome, TableLengths};
+use ruffarmoire_model::convert::HOLD;
 use ruffarmoire_model::gen::{Random, SHAPES};
 use ruffarmoire_model::job::Job;
 
@@ -35,6 +36,7 @@ macro_rules! converter_suite {
         tests_of!(searching, crate::common::converter_suite::Convert<$calls>: every_hold_offset,);
         tests_of!(converter_suite, $calls:
             worked_examples,
+            holds_around_the_seam,
             ones_of_short_texts,
             ones_of_every_length,
             ones_begun_anywhere,
@@ -111,17 +113,74 @@ pub fn worked_examples<T: ConverterCalls>() {
     let expected = Answer {
         status: 0,
         occurrences: 2,
-        comparisons: 12,
+        comparisons: 13,
         ones: 18,
         period: 3,
-        bound: 13,
+        bound: 21,
     };
     assert_eq!(outcome.answer, expected);
     assert_eq!(outcome.frames, [6, 6, 256, 6, 6, 6, 256, 6, 6]);
     // Holds marked in the text while searching would hide the occurrences after the first.
+    let outcome = check_exact::<Convert<T>>(Input::new(1, &[A; 2], &[A, A, A, C]));
+    assert_eq!(outcome.frames, [6, 256, 256, 0x18]);
     let outcome = check_exact::<Convert<T>>(Input::new(3, &[A; 4], &[A; 6]));
-    assert_eq!(outcome.frames, [6, 6, 6, 256, 256, 256]);
+    assert_eq!(outcome.frames, [256; 6]);
+    // The hold goes round with the pattern.
+    let outcome = check_exact::<Convert<T>>(Input::new(1, &[A, C], &[C, A, A]));
+    assert_eq!(
+        (outcome.occurrences, outcome.frames),
+        (vec![2], vec![256, 6, 6])
+    );
+    let outcome = check_exact::<Convert<T>>(Input::new(4, &[A, C, A, C, A], &[A, C]));
+    assert_eq!(
+        (outcome.occurrences, outcome.frames),
+        (vec![0], vec![256, 0x18])
+    );
     assert_eq!(check_ones::<T>(&[0xFF, 0x00]).ones, 8);
+}
+
+/// A conversion with one hold, at this position.
+fn expect_one_hold<T: ConverterCalls>(pattern: &[u8], hold: usize, text: &[u8], position: usize) {
+    let mut expected: Vec<u16> = text.iter().map(|&byte| byte.into()).collect();
+    expected[position] = HOLD;
+    let job = Job {
+        pattern: pattern.to_vec(),
+        hold,
+        text: text.to_vec(),
+    };
+    let (answer, frames) = converted::<T>(&job);
+    assert_eq!((answer.occurrences, frames), (1, expected), "{job:?}");
+}
+
+/// One occurrence with each hold offset, laid at each position of rings of every length from the
+/// pattern's to three times that: its hold is q positions on, counted round. And a pattern that goes
+/// round its ring more than once, which has its hold on the byte that is its own at the hold offset.
+pub fn holds_around_the_seam<T: ConverterCalls>() {
+    for m in [1, 2, 3, 7] {
+        let pattern: Vec<u8> = (1..=m as u8).collect();
+        for n in m..=3 * m {
+            for b in 0..n {
+                let mut text = vec![0xE7; n];
+                for (j, &byte) in pattern.iter().enumerate() {
+                    text[(b + j) % n] = byte;
+                }
+                for hold in 0..m {
+                    let x = b + hold;
+                    let position = if x < n { x } else { x - n };
+                    expect_one_hold::<T>(&pattern, hold, &text, position);
+                }
+            }
+        }
+    }
+    for n in 1..9 {
+        let text: Vec<u8> = (0..n as u8).collect();
+        for (m, b) in (n + 1..4 * n + 2).flat_map(|m| (0..n).map(move |b| (m, b))) {
+            let pattern: Vec<u8> = text.iter().copied().cycle().skip(b).take(m).collect();
+            for hold in 0..m {
+                expect_one_hold::<T>(&pattern, hold, &text, pattern[hold].into());
+            }
+        }
+    }
 }
 
 pub fn ones_of_short_texts<T: ConverterCalls>() {

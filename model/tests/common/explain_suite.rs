@@ -20,6 +20,7 @@ use super::lengths::BufferLengths;
 use super::matcher_suite::MatcherCalls;
 use super::prepare_suite::PrepareCalls;
 use super::repeats;
+use super::rings;
 use super::searches::{self, Pair};
 use super::table_buffers::{longer, LentTables, TableBuffers};
 use super::words::words;
@@ -53,8 +54,11 @@ macro_rules! explain_suite {
             listed_just_where_searching_finds,
             tables_as_preparing_leaves_them,
             buffers_around_the_needed_lengths,
+            every_position_of_rings,
+            positions_of_longer_rings,
+            positions_of_largest_rings,
             last_position_and_those_beyond,
-            texts_shorter_than_the_pattern,
+            empty_texts,
             refusals_at_their_edges,
             order_of_refusals,
             tables_left_by_another_call,
@@ -166,7 +170,7 @@ impl<'a> Job<'a> {
         }
     }
 
-    /// Explains a position where the pattern fits.
+    /// Explains a position below n.
     fn check<T: ExplainCalls>(&self, b: usize, seen: &mut Seen) {
         let input = Input::new(b as u32, self.pattern, self.text);
         let context = || input.to_string();
@@ -217,7 +221,7 @@ fn check_some_positions<T: ExplainCalls>(pairs: impl Iterator<Item = Pair>, most
 
 /// The outcome, the place, the position shifted from and the kind, for every position.
 fn expect<T: ExplainCalls>(pattern: &[u8], text: &[u8], expected: &[[u32; 4]]) {
-    assert_eq!(expected.len(), text.len() + 1 - pattern.len());
+    assert_eq!(expected.len(), text.len());
     for (b, &[outcome, place, from, kind]) in expected.iter().enumerate() {
         let input = Input::new(b as u32, pattern, text);
         check_all_buffers::<T>(input);
@@ -231,10 +235,9 @@ fn expect<T: ExplainCalls>(pattern: &[u8], text: &[u8], expected: &[[u32; 4]]) {
         };
         assert_eq!(answer, told, "{input}");
     }
-    assert_eq!(
-        status::<T>(Input::new(expected.len() as u32, pattern, text)),
-        10
-    );
+    for b in [text.len() as u32, text.len() as u32 + 1, u32::MAX] {
+        assert_eq!(status::<T>(Input::new(b, pattern, text)), 10);
+    }
 }
 
 pub fn worked_examples<T: ExplainCalls>() {
@@ -244,16 +247,35 @@ pub fn worked_examples<T: ExplainCalls>() {
     expect::<T>(
         &pattern,
         &listing,
-        &[LISTED, [3, 2, 0, 3], [3, 2, 0, 3], [2, 3, 0, 0], LISTED],
+        &[
+            LISTED,
+            [3, 2, 0, 3],
+            [3, 2, 0, 3],
+            [2, 3, 0, 0],
+            LISTED,
+            [3, 2, 4, 3],
+            [3, 0, 4, 3],
+            [2, 4, 0, 0],
+            [3, 3, 7, 1],
+        ],
     );
     expect::<T>(&[A], &[A], &[LISTED]);
-    expect::<T>(&[A; 4], &[A; 6], &[LISTED; 3]);
+    expect::<T>(&[A; 4], &[A; 6], &[LISTED; 6]);
     expect::<T>(&[A], &[A, C, A], &[LISTED, [2, 0, 0, 0], LISTED]);
+    // The pattern goes round its ring.
+    expect::<T>(&[A, A], &[A], &[LISTED]);
+    expect::<T>(&[A, A, C, C], &[C, C], &[[2, 0, 0, 0], [3, 1, 0, 2]]);
+    // The comparison at 0 saw the byte that lies at 3 too, but does not count there.
+    expect::<T>(
+        &[A, A],
+        &[B, A, B],
+        &[[2, 0, 0, 0], [2, 1, 0, 0], [3, 0, 1, 1]],
+    );
     // The last byte differs: once by the order, twice in a repeat.
     expect::<T>(
         &[A, C],
         &[A, B, A, C],
-        &[[2, 1, 0, 0], [3, 0, 0, 1], LISTED],
+        &[[2, 1, 0, 0], [3, 0, 0, 1], LISTED, [3, 0, 2, 3]],
     );
     expect::<T>(
         &[A; 4],
@@ -264,6 +286,9 @@ pub fn worked_examples<T: ExplainCalls>() {
             [3, 2, 1, 4],
             [3, 1, 1, 4],
             [3, 0, 1, 4],
+            LISTED,
+            LISTED,
+            LISTED,
             LISTED,
         ],
     );
@@ -279,13 +304,28 @@ pub fn worked_examples<T: ExplainCalls>() {
             [3, 0, 2, 4],
             [3, 1, 2, 4],
             LISTED,
+            [3, 4, 7, 3],
+            LISTED,
+            [3, 2, 9, 3],
+            LISTED,
+            [3, 0, 11, 3],
         ],
     );
     // All of a repeat agrees.
     expect::<T>(
         &[C, A, C, A, C, A],
         &[C, A, C, A, C, A, C, A, C],
-        &[LISTED, [3, 4, 0, 3], LISTED, [3, 2, 2, 3]],
+        &[
+            LISTED,
+            [3, 4, 0, 3],
+            LISTED,
+            [3, 2, 2, 3],
+            [2, 5, 0, 0],
+            [3, 0, 4, 4],
+            [3, 3, 4, 4],
+            [3, 0, 4, 4],
+            [3, 1, 4, 4],
+        ],
     );
     // Positions 4 and 2 agree and 3 differs.
     expect::<T>(
@@ -298,15 +338,18 @@ pub fn worked_examples<T: ExplainCalls>() {
             [3, 1, 0, 2],
             [3, 0, 0, 2],
             LISTED,
+            [3, 1, 5, 3],
+            [3, 0, 5, 3],
+            [3, 1, 5, 3],
+            [3, 0, 5, 3],
         ],
     );
-    // Every position of document 01's examples, and the first one beyond.
+    // Every position of document 01's examples, and the first two beyond.
     for job in example_jobs() {
-        let (m, n) = (job.pattern.len(), job.text.len());
-        for b in 0..=(n + 1).saturating_sub(m) {
+        let n = job.text.len();
+        for b in 0..n + 2 {
             let input = Input::new(b as u32, &job.pattern, &job.text);
-            let due = if b + m <= n { 0 } else { 10 };
-            assert_eq!(status::<T>(input), due);
+            assert_eq!(status::<T>(input), if b < n { 0 } else { 10 });
         }
     }
 }
@@ -323,7 +366,7 @@ pub fn every_position_of_all_short_texts<T: ExplainCalls>() {
 pub fn every_position_of_short_texts<T: ExplainCalls>() {
     check_every_position::<T>(searches::short()).expect_every_case(1);
     for (pattern, text) in searches::short().step_by(5) {
-        if let Some(last) = text.len().checked_sub(pattern.len()) {
+        if let Some(last) = text.len().checked_sub(1) {
             check_all_buffers::<T>(Input::new(last as u32, &pattern, &text));
         }
     }
@@ -381,12 +424,12 @@ pub fn positions_of_largest_texts<T: ExplainCalls>() {
     check_some_positions::<T>(searches::largest(), 120);
     check_some_positions::<T>(repeats::largest(), 120);
     let (pattern, text) = Shape::Periodic.pattern_and_text(&mut Random::seeded(153), 128, 16_384);
-    for b in [0, 8_000, 16_256] {
+    for b in [0, 8_000, 16_256, 16_257, 16_383] {
         check_all_buffers::<T>(Input::new(b, &pattern, &text));
     }
 }
 
-/// All 16,257 positions: of random texts, of a run with breaks, and of one byte throughout.
+/// All 16,384 positions: of random texts, of a run with breaks, and of one byte throughout.
 pub fn every_position_of_some_largest_texts<T: ExplainCalls>() {
     let mut random = Random::seeded(154);
     let any = (random.bytes(128), random.bytes(16_384));
@@ -397,7 +440,7 @@ pub fn every_position_of_some_largest_texts<T: ExplainCalls>() {
     let broken = repeats::run_with_breaks(&mut random, 5, 128);
     let equal = (vec![A; 128], vec![A; 16_384]);
     let seen = check_every_position::<T>([any, few, broken, equal].into_iter());
-    assert_eq!(seen.count(), 4 * 16_257);
+    assert_eq!(seen.count(), 4 * 16_384);
 }
 
 /// Each byte as one that occurs in the pattern and the text, and as one that only the text has.
@@ -418,13 +461,13 @@ pub fn every_byte_in_every_role<T: ExplainCalls>() {
 
 /// The positions that are listed are those that searching leaves.
 pub fn listed_just_where_searching_finds<T: ExplainCalls + MatcherCalls>() {
-    for (pattern, text) in searches::short().chain(searches::structured()) {
+    let pairs = searches::short().chain(searches::structured());
+    for (pattern, text) in pairs.chain(rings::short()) {
         let [mut buffers, _] = TableBuffers::fillings(pattern.len(), longer(pattern.len()));
         let mut found = vec![0; text.len()];
         let searched = T::search(&pattern, &text, buffers.lent(), &mut found);
         found.truncate(searched.occurrences as usize);
-        let positions = 0..(text.len() + 1).saturating_sub(pattern.len());
-        let listed: Vec<u16> = positions
+        let listed: Vec<u16> = (0..text.len())
             .filter(|&b| {
                 let input = Input::new(b as u32, &pattern, &text);
                 input.call::<T>(buffers.lent()).outcome == 1
@@ -446,8 +489,8 @@ pub fn listed_just_where_searching_finds<T: ExplainCalls + MatcherCalls>() {
 pub fn tables_as_preparing_leaves_them<T: ExplainCalls + PrepareCalls>() {
     for (pattern, mut text) in searches::short().chain(searches::longer()) {
         text.extend(&pattern);
-        let last = text.len() - pattern.len();
-        let input = Input::new((text.len() % (last + 1)) as u32, &pattern, &text);
+        let b = 7 * pattern.len() % text.len();
+        let input = Input::new(b as u32, &pattern, &text);
         for before in TableBuffers::fillings(pattern.len(), longer(pattern.len())) {
             let (mut explained, mut prepared) = (before.clone(), before);
             let answer = input.call::<T>(explained.lent());
@@ -465,10 +508,10 @@ pub fn buffers_around_the_needed_lengths<T: ExplainCalls>() {
         let (pattern, text) = Shape::Planted.pattern_and_text(&mut random, m, n);
         let needed = TableLengths::needed(m);
         for lengths in needed.choices(around) {
-            for b in [0, (n + 1).saturating_sub(m) / 2, (n + 1).saturating_sub(m)] {
+            for b in [0, n / 2, n.saturating_sub(1), n] {
                 let status = match lengths.are_enough(needed) {
                     false => 7,
-                    true if b + m > n => 10,
+                    true if b >= n => 10,
                     true => 0,
                 };
                 let answer = check::<T>(Input::new(b as u32, &pattern, &text), lengths);
@@ -478,16 +521,49 @@ pub fn buffers_around_the_needed_lengths<T: ExplainCalls>() {
     }
 }
 
-/// b + m = n is taken and the next position refused, and so is every one beyond, also such as would be
-/// taken if some of its bits were dropped or if its sum with m were.
+/// Rings of every length up to three times the pattern's, also shorter than it, and nets over the
+/// seam. Every kind of explanation is among them.
+pub fn every_position_of_rings<T: ExplainCalls>() {
+    check_every_position::<T>(rings::short()).expect_every_case(30);
+    for (pattern, text) in rings::short()
+        .filter(|(_, text)| !text.is_empty())
+        .step_by(9)
+    {
+        let b = text.len() - 1;
+        check_all_buffers::<T>(Input::new(b as u32, &pattern, &text));
+    }
+}
+
+pub fn positions_of_longer_rings<T: ExplainCalls>() {
+    check_some_positions::<T>(rings::longer(), 60);
+}
+
+/// The last 200 positions, from most of which the pattern goes over the seam.
+pub fn positions_of_largest_rings<T: ExplainCalls>() {
+    let mut seen = Seen::default();
+    let mut tables = LastTables::default();
+    for (pattern, text) in rings::largest() {
+        let job = Job::new(tables.of(&pattern), &pattern, &text);
+        for b in text.len() - 200..text.len() {
+            job.check::<T>(b, &mut seen);
+        }
+    }
+}
+
+/// n - 1 is taken and n refused, and so is every position beyond, also such as would be taken if some
+/// of its bits were dropped, if its sum with m were, or if it were counted round the ring.
 pub fn last_position_and_those_beyond<T: ExplainCalls>() {
     let mut random = Random::seeded(156);
     for (m, n) in [
         (1, 1),
         (1, 50),
+        (2, 1),
         (2, 50),
+        (5, 3),
         (5, 5),
         (5, 50),
+        (128, 1),
+        (128, 127),
         (128, 128),
         (128, 1_000),
         (1, 16_384),
@@ -495,17 +571,25 @@ pub fn last_position_and_those_beyond<T: ExplainCalls>() {
         (128, 16_384),
     ] {
         let (pattern, text) = Shape::Planted.pattern_and_text(&mut random, m, n);
-        let last = (n - m) as u32;
-        let m = m as u32;
-        for b in [0, last / 2, last.saturating_sub(1), last] {
-            assert_eq!(status::<T>(Input::new(b, &pattern, &text)), 0);
+        let (m, n) = (m as u32, n as u32);
+        let last = n - 1;
+        for b in [
+            0,
+            last / 2,
+            n.saturating_sub(m),
+            last.saturating_sub(1),
+            last,
+        ] {
+            assert_eq!(status::<T>(Input::new(b.min(last), &pattern, &text)), 0);
         }
         for b in [
-            last + 1,
-            last + 2,
+            n,
+            n + 1,
             last + m,
-            last + m + 1,
-            0x100 + last,
+            n + m,
+            2 * n,
+            2 * n + 1,
+            0x1_0000 - 0x1_0000 % n,
             0x4000 + last,
             0x8000 + last,
             0x1_0000,
@@ -525,32 +609,28 @@ pub fn last_position_and_those_beyond<T: ExplainCalls>() {
 }
 
 /// No position is taken, not even the first.
-pub fn texts_shorter_than_the_pattern<T: ExplainCalls>() {
+pub fn empty_texts<T: ExplainCalls>() {
     let mut random = Random::seeded(157);
     for m in [1, 2, 3, 17, 128] {
         let pattern = random.picked(&[A, C], m);
-        for n in [0, 1, 2, m.saturating_sub(2), m - 1] {
-            for b in [0, 1, m as u32, u32::MAX - m as u32 + 1, u32::MAX] {
-                let text = &pattern[..n.min(m - 1)];
-                assert_eq!(status::<T>(Input::new(b, &pattern, text)), 10);
-            }
+        for b in [0, 1, m as u32, u32::MAX - m as u32 + 1, u32::MAX] {
+            assert_eq!(status::<T>(Input::new(b, &pattern, &[])), 10);
         }
     }
 }
 
-/// m at 0, 128, 129 and beyond, n at 16,384, 16,385 and beyond, b at n - m, one more and beyond.
+/// m at 0, 128, 129 and beyond, n at 16,384, 16,385 and beyond, b at n - m, n - 1, n and beyond.
 pub fn refusals_at_their_edges<T: ExplainCalls>() {
     let bytes = Random::seeded(158).bytes(65_536 + 16_384);
     for m in [0_usize, 1, 127, 128, 129, 256, 257, 384, 65_536, 65_537] {
         for n in [0, 1, 127, 16_384, 16_385, 32_768, 65_536, 65_537, 81_920] {
             let (pattern, text) = (&bytes[..m], &bytes[..n]);
             let lengths = TableLengths::needed(m.min(384));
-            let last = n.saturating_sub(m) as u32;
-            for b in [0, last, last + 1, n as u32 + 1, u32::MAX] {
+            for b in around_the_end(m, n) {
                 let status = match (m, n) {
                     (0 | 129.., _) => 4,
                     (_, 16_385..) => 6,
-                    _ if b as usize + m > n => 10,
+                    _ if b as usize >= n => 10,
                     _ => 0,
                 };
                 let answer = check::<T>(Input::new(b, pattern, text), lengths);
@@ -560,6 +640,23 @@ pub fn refusals_at_their_edges<T: ExplainCalls>() {
     }
 }
 
+/// The first position, the last from which a pattern of m bytes ends before the seam of a text of n, the
+/// one after it, the last, and some beyond.
+fn around_the_end(m: usize, n: usize) -> [u32; 7] {
+    let before_the_seam = n.saturating_sub(m) as u32;
+    let n = n as u32;
+    let last = n.saturating_sub(1);
+    [
+        0,
+        before_the_seam,
+        before_the_seam + 1,
+        last,
+        n,
+        n + 1,
+        u32::MAX,
+    ]
+}
+
 /// Several faults at once: 4, 6, 7, 10 is the order. Each two of them are met together, and all four.
 pub fn order_of_refusals<T: ExplainCalls>() {
     let bytes = Random::seeded(159).bytes(16_385);
@@ -567,19 +664,18 @@ pub fn order_of_refusals<T: ExplainCalls>() {
     for m in [0, 1, 3, 128, 129] {
         for n in [0, 2, 128, 16_384, 16_385] {
             let (pattern, text) = (&bytes[..m], &bytes[..n]);
-            let last = n.saturating_sub(m) as u32;
             let needed = TableLengths::needed(m);
             let mut all_lengths = needed.one_too_short(needed);
             all_lengths.push(needed);
             all_lengths.push(needed.changed(|length| length.saturating_sub(1)));
             all_lengths.push(needed.changed(|_| 0));
             for lengths in all_lengths {
-                for b in [0, last, last + 1, n as u32 + 1, u32::MAX] {
+                for b in around_the_end(m, n) {
                     let faults = [
                         (4, m == 0 || m > 128),
                         (6, n > 16_384),
                         (7, !lengths.are_enough(needed)),
-                        (10, b as usize + m > n),
+                        (10, b as usize >= n),
                     ];
                     let held: Vec<u32> = faults
                         .into_iter()
@@ -603,9 +699,8 @@ pub fn tables_left_by_another_call<T: ExplainCalls>() {
     let [mut buffers, _] = TableBuffers::fillings(12, lengths);
     let mut expected = buffers.clone();
     for (round, (pattern, text)) in searches::short().enumerate() {
-        // Now and then a position beyond the last.
-        let positions = (text.len() + 2).saturating_sub(pattern.len()).max(1);
-        let input = Input::new((round % positions) as u32, &pattern, &text);
+        // Now and then the position beyond the last.
+        let input = Input::new((round % (text.len() + 1)) as u32, &pattern, &text);
         let outcome = input.model(lengths);
         let context = || format!("{input} after others");
         let answer = input.call::<T>(buffers.lent());

@@ -8,15 +8,18 @@ use ruffarmoire_model::steps::Comparison;
 use ruffarmoire_model::tables::Tables;
 
 use super::harness::shown;
+use super::rings::row;
 use super::words::period;
 
 /// A search for a pattern in a text, read off its comparisons.
 pub struct Compared<'a> {
     pattern: &'a [u8],
     text: &'a [u8],
+    /// The ring in a row: what each position shows.
+    row: Vec<u8>,
     /// The alignments, in their order.
     laid: Vec<Laid>,
-    /// For each position of the text the first comparison there, counted from 0.
+    /// For each position the first comparison there, counted from 0.
     first: Vec<Option<usize>>,
 }
 
@@ -32,7 +35,8 @@ struct Laid {
 impl<'a> Compared<'a> {
     pub fn of(pattern: &'a [u8], text: &'a [u8], comparisons: &[Comparison]) -> Compared<'a> {
         let mut laid: Vec<Laid> = Vec::new();
-        let mut first = vec![None; text.len()];
+        let row = row(text, pattern.len());
+        let mut first = vec![None; row.len()];
         for (before, made) in comparisons.iter().enumerate() {
             let position = made.text_position - made.pattern_position;
             match laid.last_mut() {
@@ -48,6 +52,7 @@ impl<'a> Compared<'a> {
         Compared {
             pattern,
             text,
+            row,
             laid,
             first,
         }
@@ -55,15 +60,15 @@ impl<'a> Compared<'a> {
 
     /// How many positions there are to explain.
     pub fn positions(&self) -> usize {
-        (self.text.len() + 1).saturating_sub(self.pattern.len())
+        self.text.len()
     }
 
     fn agrees(&self, b: usize, j: usize) -> bool {
-        self.text[b + j] == self.pattern[j]
+        self.row[b + j] == self.pattern[j]
     }
 
     fn occurs(&self, b: usize) -> bool {
-        self.text[b..].starts_with(self.pattern)
+        self.row[b..].starts_with(self.pattern)
     }
 
     /// Where the alignment differed. Only its last comparison may.

@@ -52,16 +52,23 @@ pub fn worked_examples<T: MatcherCalls>() {
         assert_eq!(outcome.answer.comparisons, comparisons);
     };
     let listing = [A, A, C, A, A, A, C, A, A];
-    expect(&[A, A, C, A, A], &listing, &[0, 4], 12);
+    expect(&[A, A, C, A, A], &listing, &[0, 4], 13);
     expect(&[A, A, C, A, A], &[], &[], 0);
     expect(&[A], &[A], &[0], 1);
-    expect(&[A; 4], &[A; 6], &[0, 1, 2], 6);
+    expect(&[A; 4], &[A; 6], &[0, 1, 2, 3, 4, 5], 9);
     expect(&[A], &[A, C, A], &[0, 2], 3);
-    expect(&[A, A], &[A], &[], 0);
+    expect(&[A, A], &[A], &[0], 2);
     // Two copies that share a byte, of a pattern of more than three periods.
     let pattern = [A, A, C, A, A, C, A, A, C, A, A];
     let sharing = [&pattern[..], &pattern[1..]].concat();
-    expect(&pattern, &sharing, &[0, 10], 24);
+    expect(&pattern, &sharing, &[0, 10], 25);
+    // Five periods that go round.
+    let net = [A, A, C].repeat(5);
+    expect(&pattern, &net, &[0, 3, 6, 9, 12], 23);
+    // Over the seam, and round more than once.
+    expect(&[A, C, A], &[C, A, A], &[2], 5);
+    expect(&[A, C, A, C, A], &[C, A], &[1], 6);
+    expect(&[A, C, A], &[A], &[], 3);
     // Positions 4 and 2 agree and 3 differs; the next alignment is five on.
     let text = [C, C, A, C, A, C, B, A, A, A];
     expect(&[C, B, A, A, A], &text, &[5], 8);

@@ -14,6 +14,7 @@ pub mod facts;
 pub mod files;
 pub mod lengths;
 pub mod repeats;
+pub mod rings;
 pub mod searches;
 pub mod table_buffers;
 pub mod words;

@@ -42,6 +42,7 @@ macro_rules! price_suite {
             worked_examples,
             price_of_every_byte,
             price_at_every_position,
+            holds_around_the_seam,
             rebate_at_its_edge,
             rebate_at_every_remainder,
             dearest_and_cheapest_jobs,
@@ -103,9 +104,9 @@ pub fn worked_examples<T: PriceCalls>() {
     assert_eq!(pence::<T>(2, &pattern, &listing), 134);
     assert_eq!(pence::<T>(2, &pattern, &[]), 0);
     assert_eq!(pence::<T>(0, &[A], &[A]), 46);
-    assert_eq!(pence::<T>(3, &[A; 4], &[A; 6]), 156);
+    assert_eq!(pence::<T>(3, &[A; 4], &[A; 6]), 276);
     assert_eq!(pence::<T>(0, &[A], &[A, C, A]), 98);
-    assert_eq!(pence::<T>(1, &[A, A], &[A]), 6);
+    assert_eq!(pence::<T>(1, &[A, A], &[A]), 46);
     assert_eq!(pence::<T>(0, &[A], &[0xFF, 0x00]), 18);
 }
 
@@ -153,6 +154,51 @@ pub fn price_at_every_position<T: PriceCalls>() {
                 assert_eq!(pence::<T>(0, &[byte], &text), others + price + 40);
                 text[position] = other;
             }
+        }
+    }
+}
+
+/// One hold, wherever its occurrence is laid, whichever byte of it has the hold, and also where the
+/// pattern goes round its ring more than once.
+pub fn holds_around_the_seam<T: PriceCalls>() {
+    for m in 1..6 {
+        let mut pattern = vec![A; m];
+        pattern[m - 1] = C;
+        for n in m..=2 * m + 1 {
+            for b in 0..n {
+                let mut text = vec![0xFF; n];
+                for (j, &byte) in pattern.iter().enumerate() {
+                    text[(b + j) % n] = byte;
+                }
+                let expected = (6 * m + 15 * (n - m) + 40) as u32;
+                for hold in 0..m as u32 {
+                    assert_eq!(pence::<T>(hold, &pattern, &text), expected, "{text:?}");
+                }
+            }
+        }
+    }
+    for n in 1..6 {
+        let mut text = vec![A; n];
+        text[0] = C;
+        for m in n + 1..4 * n + 2 {
+            let pattern: Vec<u8> = text.iter().copied().cycle().take(m).collect();
+            for hold in 0..m as u32 {
+                let expected = 6 * n as u32 + 40;
+                assert_eq!(pence::<T>(hold, &pattern, &text), expected, "{pattern:?}");
+            }
+        }
+    }
+    // A hold on each byte, as often as the pattern goes round.
+    for (m, n) in [
+        (2, 1),
+        (128, 1),
+        (128, 3),
+        (128, 127),
+        (128, 128),
+        (128, 129),
+    ] {
+        for hold in [0, m as u32 / 2, m as u32 - 1] {
+            assert_eq!(pence::<T>(hold, &vec![A; m], &vec![A; n]), 46 * n as u32);
         }
     }
 }
@@ -207,7 +253,7 @@ pub fn dearest_and_cheapest_jobs<T: PriceCalls>() {
     let dearest = [0xFF; 16_384];
     assert_eq!(pence::<T>(0, &[0xFF], &dearest), 856_064);
     for hold in [0, 64, 127] {
-        assert_eq!(pence::<T>(hold, &[0xFF; 128], &dearest), 851_238);
+        assert_eq!(pence::<T>(hold, &[0xFF; 128], &dearest), 856_064);
     }
     let cheapest = [0x00; 16_384];
     assert_eq!(pence::<T>(0, &[0x00], &cheapest), 669_287);

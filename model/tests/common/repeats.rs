@@ -8,13 +8,13 @@ use super::searches::Pair;
 use super::words::{period, structured_words, words};
 
 /// A byte that none of the patterns has.
-const FOREIGN: u8 = 0xE7;
+pub const FOREIGN: u8 = 0xE7;
 
 /// The longest period of which a pattern has room for three.
 const LONGEST_PERIOD: usize = MAX_PATTERN / 3;
 
 /// A root again and again.
-fn run(root: &[u8], length: usize) -> Vec<u8> {
+pub fn run(root: &[u8], length: usize) -> Vec<u8> {
     root.iter().copied().cycle().take(length).collect()
 }
 
@@ -24,7 +24,7 @@ fn root(pattern: &[u8]) -> &[u8] {
 }
 
 /// A root of so many bytes that is no shorter one again and again.
-fn random_root(random: &mut Random, length: usize) -> Vec<u8> {
+pub fn random_root(random: &mut Random, length: usize) -> Vec<u8> {
     loop {
         let root = match random.below(3) {
             0 => random.picked(&[0x06, 0x18], length),
@@ -79,7 +79,7 @@ fn with_two_repeats(pattern: &[u8]) -> usize {
 }
 
 /// The byte of a run at a position, changed to another byte of the pattern where it has one.
-fn another_of(pattern: &[u8], position: usize) -> u8 {
+pub fn another_of(pattern: &[u8], position: usize) -> u8 {
     let root = root(pattern);
     let due = root[position % root.len()];
     let others = pattern.iter().skip(position % root.len());

@@ -10,7 +10,7 @@ use super::bounds;
 use super::examples::example_jobs;
 use super::files::{largest_job, small_job, spoiled_files};
 use super::harness::{reserved, shown, Buffer};
-use super::repeats;
+use super::{repeats, rings};
 
 /// An implementation of writing SEEK's report.
 pub trait ReportCalls {
@@ -26,6 +26,7 @@ macro_rules! report_suite {
             generated_jobs,
             longer_jobs,
             long_repeats,
+            rings,
             largest_jobs,
             every_buffer_length,
             spoiled_jobs,
@@ -76,7 +77,7 @@ pub fn worked_examples<T: ReportCalls>() {
         check_job::<T>(&job);
     }
     let listing = b"0105020009\n06\n06\n18\n06\n06\n06\n06\n18\n06\n06\n06\n18\n06\n06\n";
-    let printed = b"0002\n0000000C\n00000012\n0003\n0000000D\n0000\n0004\n\
+    let printed = b"0002\n0000000D\n00000012\n0003\n00000015\n0000\n0004\n\
                     0006\n0006\n0100\n0006\n0006\n0006\n0100\n0006\n0006\n";
     check_file::<T>(listing);
     let mut out = vec![0; printed.len()];
@@ -116,6 +117,22 @@ pub fn longer_jobs<T: ReportCalls>() {
 pub fn long_repeats<T: ReportCalls>() {
     for (pattern, text) in repeats::mixed().chain(repeats::largest()) {
         let hold = text.len() % pattern.len();
+        let job = Job {
+            pattern,
+            hold,
+            text,
+        };
+        check_report::<T>(&job::write(&job), LONGEST);
+    }
+}
+
+pub fn rings<T: ReportCalls>() {
+    let pairs = rings::short()
+        .step_by(5)
+        .chain(rings::longer())
+        .chain(rings::largest().step_by(4));
+    for (pattern, text) in pairs {
+        let hold = (text.len() + 1) % pattern.len();
         let job = Job {
             pattern,
             hold,

@@ -14,7 +14,8 @@ use ruffarmoire_model::job::Job;
 use super::converter_suite::{converted, ConverterCalls};
 use super::examples::example_jobs;
 use super::harness::{expect_front, reserved, shown, Buffer};
-use super::searches;
+use super::rings;
+use super::searches::{self, Pair};
 use super::words::words;
 
 const A: u8 = 0x06;
@@ -38,9 +39,10 @@ macro_rules! restore_suite {
             worked_examples,
             conversions_of_all_short_texts,
             conversions_of_generated_texts,
-            holds_at_both_ends,
+            holds_around_the_seam,
             texts_shorter_than_the_pattern,
             one_byte_throughout,
+            rings_with_one_frame_changed,
             every_number_as_a_frame,
             every_byte_in_every_role,
             all_short_frames,
@@ -182,8 +184,11 @@ pub fn worked_examples<T: RestoreCalls>() {
     let listing = [6, 6, 256, 6, 6, 6, 256, 6, 6];
     let text = [A, A, C, A, A, A, C, A, A];
     assert_eq!(restored::<T>(2, &pattern, &listing), Ok(text.to_vec()));
-    let net = [6, 6, 6, 256, 256, 256];
-    assert_eq!(restored::<T>(3, &[A; 4], &net), Ok(vec![A; 6]));
+    assert_eq!(restored::<T>(3, &[A; 4], &[256; 6]), Ok(vec![A; 6]));
+    assert_eq!(restored::<T>(1, &[A, A], &[256]), Ok(vec![A]));
+    // The hold of the occurrence over the seam.
+    let over_the_seam = [256, 6, 6];
+    assert_eq!(restored::<T>(1, &[A, C], &over_the_seam), Ok(vec![C, A, A]));
     // An occurrence without its hold, a hold without its occurrence, a number that is no frame.
     for (position, frame) in [
         (2, 0x18),
@@ -226,78 +231,93 @@ fn some_holds(m: usize) -> impl Iterator<Item = usize> {
     (0..m).filter(move |&hold| m < 20 || hold < 2 || hold == m / 2 || hold >= m - 2)
 }
 
-/// A job's frames are refused with a hold at any of these positions, where they have none.
-fn check_no_hold<T: RestoreCalls>(job: &Job, positions: impl Iterator<Item = usize>) {
-    let frames = frames_of(job);
-    for position in positions {
-        let mut changed = frames.clone();
-        changed[position] = HOLD;
-        assert_eq!(status::<T>(Input::of(job, &changed)), 9);
+/// The frames of a job with these holds and no others are put back to its text. They are refused with
+/// a hold made a move, and with a move made a hold where that is the same byte.
+fn check_holds<T: RestoreCalls>(job: &Job, holds: &BTreeSet<usize>) {
+    let moves: Vec<u16> = job.text.iter().map(|&byte| byte.into()).collect();
+    let mut frames = moves.clone();
+    for &position in holds {
+        frames[position] = HOLD;
+    }
+    let outcome = check::<T>(Input::of(job, &frames), frames.len());
+    assert_eq!(outcome.answer, Answer::default(), "{job:?}");
+    assert_eq!(outcome.text, job.text);
+    let held = u16::from(job.pattern[job.hold]);
+    for position in 0..frames.len() {
+        let frame = frames[position];
+        frames[position] = if frame == HOLD { moves[position] } else { HOLD };
+        let status = status::<T>(Input::of(job, &frames));
+        assert!(
+            moves[position] != held || status == 9,
+            "{job:?}, {position}"
+        );
+        frames[position] = frame;
     }
 }
 
-/// The pattern at both ends of the text, with nothing or something between: the first hold stands at
-/// q, and after the last hold there are m - 1 - q frames. No hold may stand before the first or after
-/// the last.
-pub fn holds_at_both_ends<T: RestoreCalls>() {
-    let mut random = Random::seeded(121);
-    for m in [1, 2, 3, 16, 127, 128] {
-        let pattern = random.picked(&[A, C], m);
-        for between in [0, 1, 2, m] {
-            let text = [&pattern[..], &vec![B; between], &pattern].concat();
-            for hold in some_holds(m) {
-                let job = Job {
-                    pattern: pattern.clone(),
-                    hold,
-                    text: text.clone(),
-                };
-                let frames = check_conversion::<T>(&job);
-                let last = frames.len() - m + hold;
-                assert_eq!((frames[hold], frames[last]), (HOLD, HOLD));
-                check_no_hold::<T>(&job, (0..hold).chain(last + 1..frames.len()));
-            }
-        }
-    }
-}
-
-/// Any moves are a conversion, and no hold is.
-pub fn texts_shorter_than_the_pattern<T: RestoreCalls>() {
-    let mut random = Random::seeded(122);
-    for m in [1, 2, 3, 17, 128] {
-        let pattern = random.picked(&[A, C], m);
-        for n in [0, 1, 2, m.saturating_sub(2), m - 1] {
-            let n = n.min(m - 1);
-            for text in [&pattern[..n], &pattern[m - n..], &vec![C; n]] {
+/// One occurrence, laid at each position of a ring: its hold is q positions on, counted round.
+pub fn holds_around_the_seam<T: RestoreCalls>() {
+    for m in [1, 2, 3, 16, 128] {
+        // It has B only as its last byte, so it does not overlap itself.
+        let mut pattern = vec![A; m];
+        pattern[m - 1] = B;
+        for n in [m, m + 1, 2 * m, 2 * m + 1] {
+            let some = |b: &usize| n < 20 || *b < 2 || b + m + 1 >= n && b % 31 < 2;
+            for b in (0..n).filter(some) {
+                let mut text = vec![C; n];
+                for (j, &byte) in pattern.iter().enumerate() {
+                    text[(b + j) % n] = byte;
+                }
                 for hold in some_holds(m) {
                     let job = Job {
                         pattern: pattern.clone(),
                         hold,
-                        text: text.to_vec(),
+                        text: text.clone(),
                     };
-                    check_conversion::<T>(&job);
-                    check_no_hold::<T>(&job, 0..n);
+                    check_holds::<T>(&job, &BTreeSet::from([(b + hold) % n]));
                 }
             }
         }
     }
 }
 
-/// Holds from q on, up to the m - 1 - q frames at the end, and not one more or less.
+/// Rings that the pattern goes round more than once, begun anywhere: one hold, on the byte that is the
+/// pattern's own at the hold offset. With another byte in the ring any moves are a conversion, and no
+/// hold is.
+pub fn texts_shorter_than_the_pattern<T: RestoreCalls>() {
+    for m in [2, 3, 5, 17, 128] {
+        for n in (1..m).filter(|n| *n < 4 || n + 3 >= m || n % 21 == 0) {
+            let ring: Vec<u8> = (0..n as u8).collect();
+            for b in (0..n).filter(|b| *b < 3 || b + 2 >= n) {
+                let pattern: Vec<u8> = ring.iter().copied().cycle().skip(b).take(m).collect();
+                for hold in some_holds(m) {
+                    let mut job = Job {
+                        pattern: pattern.clone(),
+                        hold,
+                        text: ring.clone(),
+                    };
+                    check_holds::<T>(&job, &BTreeSet::from([(b + hold) % n]));
+                    job.text[n / 2] = 0xFF;
+                    check_holds::<T>(&job, &BTreeSet::new());
+                }
+            }
+        }
+    }
+}
+
+/// A hold for every byte, and not one less.
 pub fn one_byte_throughout<T: RestoreCalls>() {
     for m in [1, 2, 3, 64, 127, 128] {
-        for n in [m, m + 1, 2 * m, 300] {
+        for n in [1, 2, 63, 64, 65, 127, 128, 129, 300] {
             for hold in some_holds(m) {
-                let mut frames = vec![MOVE_A; n];
-                frames[hold..n - m + hold + 1].fill(HOLD);
-                let pattern = vec![A; m];
-                assert_eq!(restored::<T>(hold, &pattern, &frames), Ok(vec![A; n]));
-                for position in 0..n {
-                    let frame = frames[position];
-                    frames[position] = if frame == HOLD { MOVE_A } else { HOLD };
-                    let refused = restored::<T>(hold, &pattern, &frames);
-                    assert_eq!(refused, Err(no_conversion()), "m {m}, n {n}, q {hold}");
-                    frames[position] = frame;
-                }
+                let job = Job {
+                    pattern: vec![A; m],
+                    hold,
+                    text: vec![A; n],
+                };
+                check_holds::<T>(&job, &(0..n).collect());
+                let moves = vec![MOVE_A; n];
+                assert_eq!(status::<T>(Input::of(&job, &moves)), 9);
             }
         }
     }
@@ -307,12 +327,36 @@ pub fn one_byte_throughout<T: RestoreCalls>() {
         text: vec![A; 16_384],
     };
     for (m, hold) in [(1, 0), (2, 0), (2, 1), (128, 0), (128, 64), (128, 127)] {
-        check_conversion::<T>(&job(m, hold));
+        let frames = check_conversion::<T>(&job(m, hold));
+        assert_eq!(frames, [HOLD; 16_384]);
     }
 }
 
-/// Where a hold is due, only a hold or a byte other than the pattern's is taken; where none is, any
-/// byte. Nothing above 256 is taken.
+/// Short rings with each frame changed in turn, and the largest around their seam.
+pub fn rings_with_one_frame_changed<T: RestoreCalls>() {
+    let mut tally = Tally::default();
+    let mut check = |round: usize, (pattern, text): Pair, positions: &[usize]| {
+        let hold = [0, pattern.len() - 1, round / 3 % pattern.len()][round % 3];
+        let job = Job {
+            pattern,
+            hold,
+            text,
+        };
+        check_changed::<T>(&job, positions, &mut tally);
+    };
+    for (round, pair) in rings::short().enumerate() {
+        let positions: Vec<usize> = (0..pair.1.len()).skip(round % 3).step_by(3).collect();
+        check(round, pair, &positions);
+    }
+    for (round, pair) in rings::largest().step_by(5).enumerate() {
+        let n = pair.1.len();
+        check(round, pair, &[0, 1, 64, n - 64, n - 1]);
+    }
+    tally.expect_both(5_000);
+}
+
+/// Where a hold is due, also one over the seam, only a hold or a byte other than the pattern's is taken;
+/// where none is, any byte. Nothing above 256 is taken.
 pub fn every_number_as_a_frame<T: RestoreCalls>() {
     let expect = |frame: u16, hold: usize, pattern: &[u8], frames: &[u16], due: Option<u8>| {
         let taken = match due {
@@ -327,8 +371,11 @@ pub fn every_number_as_a_frame<T: RestoreCalls>() {
         expect(frame, 0, &[A], &[frame], Some(A));
         expect(frame, 0, &[A, C], &[frame, MOVE_C], Some(A));
         expect(frame, 1, &[A, C], &[MOVE_A, frame], Some(C));
-        expect(frame, 0, &[A, C], &[frame, MOVE_A], None);
-        expect(frame, 1, &[A, C], &[MOVE_C, frame, MOVE_A], None);
+        expect(frame, 0, &[A, C], &[MOVE_C, frame], Some(A));
+        expect(frame, 1, &[A, C], &[frame, MOVE_B, MOVE_A], Some(C));
+        expect(frame, 4, &[A, C, A, C, A], &[frame, MOVE_C], Some(A));
+        expect(frame, 0, &[A, C], &[frame, MOVE_B], None);
+        expect(frame, 1, &[A, C], &[MOVE_C, frame, MOVE_B], None);
         expect(frame, 1, &[A, C], &[MOVE_B, MOVE_B, frame], None);
         expect(frame, 0, &[A, C], &[MOVE_B, MOVE_B, frame], None);
     }
@@ -468,11 +515,14 @@ fn check_changed<T: RestoreCalls>(job: &Job, positions: &[usize], tally: &mut Ta
     }
 }
 
-/// Positions of a job's frames at which a change may be missed: both ends, around the first and the
-/// last hold that could be, around the first and the last that is, and some at random.
+/// Positions of a job's frames at which a change may be missed: both ends, around the hold of an
+/// occurrence at either end and just over the seam, around the first and the last hold, and some at
+/// random.
 fn notable_positions(random: &mut Random, job: &Job) -> Vec<usize> {
     let (m, n, q) = (job.pattern.len(), job.text.len(), job.hold);
-    let holds = convert::holds(&job.pattern, q, &job.text);
+    let holds: BTreeSet<usize> = convert::holds(&job.pattern, q, &job.text)
+        .into_iter()
+        .collect();
     let mut around = vec![0, q, (n + q).saturating_sub(m), n.saturating_sub(1)];
     around.extend(holds.first());
     around.extend(holds.last());
@@ -516,8 +566,8 @@ pub fn largest_conversions_with_one_frame_changed<T: RestoreCalls>() {
     for shape in SHAPES {
         for m in [2, 128] {
             let job = shape.job(&mut random, m, 16_384);
-            let last = 16_384 - m + job.hold;
-            let positions = [job.hold, last, 16_383, random.below(16_384)];
+            let before_the_seam = 16_384 - m + job.hold;
+            let positions = [job.hold, before_the_seam, 16_383, random.below(16_384)];
             check_changed::<T>(&job, &positions, &mut tally);
         }
     }

@@ -3,8 +3,8 @@
 use ruffarmoire_model::gen::{Random, Shape, SHAPES};
 use ruffarmoire_model::job::Job;
 
-use super::repeats;
 use super::words::{structured_words, words};
+use super::{repeats, rings};
 
 /// A pattern and a text.
 pub type Pair = (Vec<u8>, Vec<u8>);
@@ -81,13 +81,16 @@ pub fn about_as_long() -> impl Iterator<Item = Pair> {
     pairs.into_iter()
 }
 
-/// Jobs of every shape and size, with the first hold offset, the last, and any, in turn.
+/// Jobs of every shape and size, and rings with something over their seam, with the first hold offset,
+/// the last, and any, in turn.
 pub fn jobs() -> impl Iterator<Item = Job> {
     let pairs = short()
         .chain(longer())
         .chain(structured())
         .chain(about_as_long())
         .chain(repeats::mixed())
+        .chain(rings::short().step_by(3))
+        .chain(rings::longer())
         .chain(largest());
     pairs.enumerate().map(|(round, (pattern, text))| {
         let m = pattern.len();

@@ -9,17 +9,19 @@ use std::fmt::{self, Debug, Display, Formatter};
 
 use ruffarmoire_model::answers::Answer;
 use ruffarmoire_model::calls::{Outcome, TableLengths};
-use ruffarmoire_model::convert::occurrences;
+use ruffarmoire_model::convert;
 use ruffarmoire_model::gen::{Random, Shape};
 use ruffarmoire_model::steps::search_with;
 use ruffarmoire_model::tables::Tables;
 
 use super::bounds;
 use super::examples::example_jobs;
+use super::explanations::LastTables;
 use super::facts;
 use super::harness::{expect_front, reserved, shown, Buffer};
 use super::lengths::BufferLengths;
 use super::repeats;
+use super::rings;
 use super::searches::{self, Pair};
 use super::table_buffers::{entries, longer, LentTables, TableBuffers};
 use super::words::{period, words};
@@ -51,6 +53,9 @@ macro_rules! searching_tests {
             largest_texts,
             structured_texts,
             texts_about_as_long_as_the_pattern,
+            rings_of_every_length,
+            longer_rings,
+            largest_rings,
             long_repeats_broken_at_every_position,
             long_repeats_that_share_their_ends,
             long_repeats_at_random,
@@ -74,6 +79,8 @@ macro_rules! bound_tests {
             occurrences_as_far_on_as_each_shift,
             all_short_long_repeats,
             long_repeats_with_any_end,
+            rings_by_their_patterns,
+            rings_that_agree_where_compared,
         );
     };
 }
@@ -270,6 +277,33 @@ pub fn structured_texts<T: SearchingCall>() {
 
 pub fn texts_about_as_long_as_the_pattern<T: SearchingCall>() {
     for_each(searches::about_as_long(), check_exact::<T>);
+}
+
+/// Every length from 0 to three times the pattern's, lengths below the pattern's that it goes round more
+/// than once, and nets.
+pub fn rings_of_every_length<T: SearchingCall>() {
+    let mut round = 0;
+    for_each(rings::short(), |input| {
+        check_exact::<T>(input);
+        if round % 5 == 0 {
+            check_other_buffers::<T>(input);
+        }
+        round += 1;
+    });
+}
+
+pub fn longer_rings<T: SearchingCall>() {
+    for_each(rings::longer(), check_exact::<T>);
+}
+
+/// Occurrences over the seam of the largest texts, with the hold before it and after it.
+pub fn largest_rings<T: SearchingCall>() {
+    for (pattern, text) in rings::largest() {
+        let last = pattern.len() as u32 - 1;
+        for &hold in holds::<T>(&[0, last]) {
+            check_exact::<T>(Input::new(hold, &pattern, &text));
+        }
+    }
 }
 
 pub fn long_repeats_broken_at_every_position<T: SearchingCall>() {
@@ -477,7 +511,7 @@ pub fn periods_and_bounds<T: SearchingCall<Answer = Answer>>() {
 }
 
 /// The answer of a call within the limits. Its comparisons are at most its bound, which is 0 just where
-/// the text is shorter than the pattern.
+/// the text is empty.
 fn answer_within_the_bound<T: SearchingCall<Answer = Answer>>(
     input: Input,
     buffers: &mut Buffers,
@@ -486,8 +520,8 @@ fn answer_within_the_bound<T: SearchingCall<Answer = Answer>>(
     assert_eq!(answer.status, 0, "{input}");
     assert_eq!(answer.period, period(input.pattern), "{input}");
     assert!(answer.comparisons <= answer.bound, "{answer:?}, {input}");
-    let is_shorter = input.text.len() < input.pattern.len();
-    assert_eq!(answer.bound == 0, is_shorter, "{answer:?}, {input}");
+    let is_empty = input.text.is_empty();
+    assert_eq!(answer.bound == 0, is_empty, "{answer:?}, {input}");
     answer
 }
 
@@ -519,8 +553,8 @@ pub fn comparisons_within_the_bound<T: SearchingCall<Answer = Answer>>() {
 }
 
 /// Searches some texts for a pattern with these tables: the comparisons are those of the model's steps
-/// and within the bound, and the occurrences are those of the definition. The buffers go from call to
-/// call.
+/// and within the bound, the occurrences are those of the definition, and so are the frames where the
+/// call takes them, with each hold offset in turn. The buffers go from call to call.
 fn check_texts<T: SearchingCall<Answer = Answer>>(
     tables: &Tables,
     pattern: &[u8],
@@ -528,11 +562,17 @@ fn check_texts<T: SearchingCall<Answer = Answer>>(
     buffers: &mut Buffers,
 ) {
     check_exact::<T>(Input::new(0, pattern, &[]));
-    for text in texts {
-        let input = Input::new(0, pattern, &text);
+    for (round, text) in texts.into_iter().enumerate() {
+        let hold = round % pattern.len();
+        let input = Input::new(hold as u32, pattern, &text);
         let answer = T::call(input, buffers.lent());
         let found = &buffers.found.lent()[..answer.occurrences as usize];
-        assert_eq!(found, entries(&occurrences(pattern, &text)), "{input}");
+        let occurrences = convert::occurrences(pattern, &text);
+        assert_eq!(found, entries(&occurrences), "{input}");
+        if T::TAKES_FRAMES {
+            let frames = &buffers.frames.lent()[..text.len()];
+            assert_eq!(frames, convert::frames(pattern, hold, &text), "{input}");
+        }
         let steps = search_with(tables, pattern, &text);
         let expected = Answer {
             status: 0,
@@ -585,4 +625,69 @@ pub fn long_repeats_with_any_end<T: SearchingCall<Answer = Answer>>() {
         let texts = repeats::with_any_end(&pattern);
         check_texts::<T>(&tables, &pattern, texts, &mut buffers);
     }
+}
+
+/// Rings of every length up to three times that of long patterns, and all nets.
+pub fn rings_by_their_patterns<T: SearchingCall<Answer = Answer>>() {
+    let [mut buffers, _] = Buffers::fillings(128, 384, Lengths::longer::<T>(128, 384));
+    for (pattern, texts) in rings::families() {
+        check_texts::<T>(&Tables::of(&pattern), &pattern, texts, &mut buffers);
+    }
+}
+
+/// What demand 3 compares in two searches: the answer but for the ones, the occurrences, and where the
+/// call takes frames, the holds.
+fn searched<T: SearchingCall<Answer = Answer>>(
+    input: Input,
+    buffers: &mut Buffers,
+) -> (Answer, Vec<u16>, Vec<usize>) {
+    let answer = T::call(input, buffers.lent());
+    assert_eq!(answer.status, 0, "{input}");
+    let found = buffers.found.lent()[..answer.occurrences as usize].to_vec();
+    let mut holds = Vec::new();
+    if T::TAKES_FRAMES {
+        let frames = &buffers.frames.lent()[..input.text.len()];
+        holds = (0..frames.len())
+            .filter(|&x| frames[x] == convert::HOLD)
+            .collect();
+        // Each occurrence has a hold of its own.
+        assert_eq!(holds.len(), found.len(), "{input}");
+    }
+    (Answer { ones: 0, ..answer }, found, holds)
+}
+
+/// Demand 3: two rings of equal length that agree on every byte that is compared in the first have the
+/// same comparisons, occurrences and holds. A byte is compared at any of the positions that show it.
+pub fn rings_that_agree_where_compared<T: SearchingCall<Answer = Answer>>() {
+    let mut random = Random::seeded(70);
+    let [mut buffers, _] = Buffers::fillings(128, 16_384, Lengths::needed::<T>(128, 16_384));
+    let mut tables = LastTables::default();
+    let mut different = 0;
+    let all = rings::short()
+        .chain(searches::short())
+        .chain(rings::longer())
+        .chain(rings::largest().step_by(3));
+    for_each(all, |input| {
+        let (pattern, n) = (input.pattern, input.text.len());
+        let mut free = vec![true; n];
+        for made in search_with(tables.of(pattern), pattern, input.text).comparisons {
+            free[made.text_position % n] = false;
+        }
+        let mut text = input.text.to_vec();
+        for (byte, _) in text.iter_mut().zip(free).filter(|(_, free)| *free) {
+            *byte = random.pick(&[pattern[0], pattern[pattern.len() - 1], !*byte]);
+        }
+        let other = Input {
+            text: &text,
+            ..input
+        };
+        let first = searched::<T>(input, &mut buffers);
+        assert_eq!(
+            searched::<T>(other, &mut buffers),
+            first,
+            "{input}, {other}"
+        );
+        different += usize::from(text != input.text);
+    });
+    assert!(different > 1_000, "only {different} rings differed");
 }

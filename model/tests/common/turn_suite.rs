@@ -2,6 +2,7 @@
 //! to the model: its whole answer, and every entry of both buffers. What is promised of turned jobs
 //! is asked of the implementation's own calls.
 
+use std::collections::BTreeSet;
 use std::fmt::{self, Display, Formatter};
 
 use ruffarmoire_model::answers::{Answer, TurnAnswer};
@@ -495,13 +496,16 @@ fn occurrences<T: MatcherCalls>(job: &Job) -> Vec<u16> {
 }
 
 /// Turned alike, a pattern and a text have the same occurrences where the order stays, and where it
-/// is reversed n - m - b for each occurrence b.
+/// is reversed (n - m - b) modulo n for each occurrence b, ascending again.
 pub fn occurrences_of_turned_jobs<T: TurnCalls + MatcherCalls>() {
     let mut times = 0;
+    let mut over_the_seam = 0;
     for job in searches::jobs() {
-        let (m, n) = (job.pattern.len(), job.text.len());
+        let (m, n) = (job.pattern.len() as i32, job.text.len() as i32);
         let found = occurrences::<T>(&job);
-        let from_the_end: Vec<u16> = found.iter().rev().map(|b| (n - m) as u16 - b).collect();
+        let reversed = |&b: &u16| (n - m - i32::from(b)).rem_euclid(n) as u16;
+        let from_the_end: BTreeSet<u16> = found.iter().map(reversed).collect();
+        let from_the_end = Vec::from_iter(from_the_end);
         for (way, expected) in [&found, &found, &from_the_end, &from_the_end]
             .into_iter()
             .enumerate()
@@ -510,8 +514,13 @@ pub fn occurrences_of_turned_jobs<T: TurnCalls + MatcherCalls>() {
             assert_eq!(&occurrences::<T>(&turned), expected, "way {way}, {job:?}");
         }
         times += usize::from(found != from_the_end);
+        over_the_seam += usize::from(found.iter().any(|&b| i32::from(b) + m > n));
     }
     assert!(times > 1_000, "only {times} jobs with other occurrences");
+    assert!(
+        over_the_seam > 500,
+        "only {over_the_seam} jobs with some over the seam"
+    );
 }
 
 /// A turned job converts to the turned frames, with as many occurrences and ones, the same period and

@@ -42,7 +42,8 @@ pub fn convert(
         *frame = u16::from(byte);
     }
     for &b in &found[..answer.occurrences as usize] {
-        frames[usize::from(b) + hold as usize] = HOLD;
+        let x = usize::from(b) + hold as usize;
+        frames[if x < n { x } else { x % n }] = HOLD;
     }
     answer.ones = ones(text);
     answer

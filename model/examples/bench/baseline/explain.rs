@@ -4,8 +4,8 @@
 use ruffarmoire_model::answers::{Answer, ExplainAnswer, Refusal};
 use ruffarmoire_model::{MAX_PATTERN, MAX_TEXT};
 
-use super::matcher::agreed_from;
-use super::tables::{are_too_short, is_long_repeat, period, write_tables};
+use super::matcher::{agreed_from, Job, Next};
+use super::tables::{are_too_short, period, write_tables};
 
 /// The numbers of the outcomes.
 const LISTED: u32 = 1;
@@ -42,7 +42,7 @@ pub fn explain(
         return Refusal::ShortBuffer.into();
     }
     let b = position as usize;
-    if b + m > n {
+    if b >= n {
         return Refusal::Position.into();
     }
     // SAFETY: all lengths were just checked.
@@ -57,52 +57,21 @@ pub fn explain(
         // SAFETY: the table is that of the pattern.
         period: unsafe { period(m, delta2) },
     };
-    // SAFETY: the pattern fits in the text at b, and the tables are the pattern's.
+    // SAFETY: the position is in the text, and the tables are the pattern's.
     let next = unsafe { job.first_near(b) };
     job.explained(b, next)
 }
 
-/// A pattern with its tables, and a text.
-struct Job<'a> {
-    pattern: &'a [u8],
-    text: &'a [u8],
-    order: &'a [i16],
-    delta2: &'a [u16],
-    delta1: &'a [u16],
-    delta3: &'a [u16],
-    period: usize,
-}
-
-/// The alignment that comes next.
-struct Next {
-    position: usize,
-    /// The last shift.
-    shift: usize,
-    is_repeat: bool,
-}
-
 impl Job<'_> {
-    fn first(&self) -> Next {
-        Next {
-            position: 0,
-            shift: self.pattern.len(),
-            is_repeat: false,
-        }
-    }
-
-    fn is_long_repeat(&self) -> bool {
-        is_long_repeat(self.pattern.len(), self.period)
-    }
-
     /// The first alignment above b - m. Those before compare only what is below b.
     ///
     /// # Safety
     ///
-    /// The pattern has 1 to 128 bytes and fits in the text at b, and the tables are the pattern's.
+    /// The pattern has 1 to 128 bytes, the tables are the pattern's, and b is below n.
     unsafe fn first_near(&self, b: usize) -> Next {
         match b.checked_sub(self.pattern.len()) {
-            // Every alignment that `first_above` compares is at or below b - m, so it fits in the
-            // text.
+            // Every alignment that `first_above` compares is at or below b - m, so it ends before
+            // the seam.
             Some(end) => self.first_above(end),
             None => self.first(),
         }
@@ -112,8 +81,8 @@ impl Job<'_> {
     ///
     /// # Safety
     ///
-    /// The pattern has 1 to 128 bytes, the tables are the pattern's, and an alignment at `end` fits
-    /// in the text.
+    /// The pattern has 1 to 128 bytes, the tables are the pattern's, and an alignment at `end` ends
+    /// before the seam.
     unsafe fn first_above(&self, end: usize) -> Next {
         let m = self.pattern.len();
         let (mut a, mut s) = (0, m);
@@ -225,7 +194,7 @@ impl Job<'_> {
         loop {
             let a = next.position;
             let (differing, shift) = self.aligned(&next, |x| {
-                if spoilt.is_none() && x >= b && self.text[x] != self.pattern[x - b] {
+                if spoilt.is_none() && x >= b && self.byte_at(x) != self.pattern[x - b] {
                     spoilt = Some(x - b);
                 }
             });
@@ -245,40 +214,7 @@ impl Job<'_> {
                 let place = spoilt.expect("a comparison spoils a position that is passed over");
                 return told(PASSED_OVER, place, a, kind as u32);
             }
-            next = Next {
-                position: a + shift,
-                shift,
-                is_repeat: differing.is_none() && self.is_long_repeat(),
-            };
-        }
-    }
-
-    /// Makes the comparisons of an alignment, with each text position handed on. Gives the position
-    /// that differs, if one does, and the shift.
-    fn aligned(&self, next: &Next, mut compared: impl FnMut(usize)) -> (Option<usize>, usize) {
-        let (m, a) = (self.pattern.len(), next.position);
-        let mut agrees = |i: usize| {
-            compared(a + i);
-            self.pattern[i] == self.text[a + i]
-        };
-        if !agrees(m - 1) {
-            let seen = usize::from(self.text[a + m - 1]);
-            let shift = self.delta1[seen * m + next.shift - 1];
-            return (Some(m - 1), usize::from(shift));
-        }
-        if next.is_repeat {
-            return match (m - self.period..m - 1).rev().find(|&i| !agrees(i)) {
-                None => (None, self.period),
-                Some(i) => (Some(i), usize::from(self.delta3[i])),
-            };
-        }
-        let others = &self.order[1..m];
-        match others.iter().position(|&h| !agrees(h as usize)) {
-            None => (None, self.period),
-            Some(index) => {
-                let shift = self.delta2[index + 1];
-                (Some(others[index] as usize), usize::from(shift))
-            }
+            next = self.after(&next, differing, shift);
         }
     }
 }

@@ -48,23 +48,33 @@ fn byte_of(frame: u16, held: u8) -> u8 {
 /// Whether each frame is a move or a hold, and the holds are just where occurrences of the pattern
 /// have them.
 fn is_conversion(pattern: &[u8], hold: usize, frames: &[u16]) -> bool {
-    // An occurrence ends so many frames after its hold: none ends in the first so many frames, and none
-    // has its hold in the last.
-    let after = (pattern.len() - 1 - hold).min(frames.len());
-    let (first, rest) = frames.split_at(after);
-    let last = &frames[frames.len() - after..];
+    let (m, n) = (pattern.len(), frames.len());
+    if n == 0 {
+        return true;
+    }
     let held = pattern[hold];
     let mut walk = Walk::new(pattern);
     let mut ends_at = |frame| walk.ends_an_occurrence(byte_of(frame, held));
+    // The occurrence that has its hold in frame 0 begins q frames before it, over the seam. The walk
+    // goes from there to the frame before that occurrence's end; no occurrence ends on the way, which
+    // has fewer frames than the pattern has bytes.
+    let mut x = (n - hold % n) % n;
+    for _ in 1..m {
+        ends_at(frames[x]);
+        x = if x + 1 < n { x + 1 } else { 0 };
+    }
+    // From there on an occurrence ends so many frames after its hold, the last of them over the seam.
+    let after = (m - 1 - hold) % n;
+    let (first, rest) = frames.split_at(after);
+    let last = &frames[n - after..];
     frames
         .iter()
         .fold(true, |all, &frame| all & (frame <= HOLD))
-        && first.iter().all(|&frame| !ends_at(frame))
         && rest
             .iter()
             .zip(frames)
+            .chain(first.iter().zip(last))
             .all(|(&frame, &before)| ends_at(frame) == (before == HOLD))
-        && !last.contains(&HOLD)
 }
 
 /// The search of Knuth, Morris and Pratt, a byte at a time.
