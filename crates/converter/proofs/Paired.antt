@@ -26,7 +26,7 @@ use Rattle.steps.specs.Text.{shown, span}
 use Rattle.ring.specs.Ring.{ascending}
 use Rattle.frames.proofs.Holds.{length-frames, holds-listed, holds-apart}
 use Rattle.converter.proofs.Taken.{conversion-taken}
-use Rattle.converter.specs.Convert.{frames-left}
+use Rattle.converter.specs.Convert.{convert-status-of, frames-left}
 use Rattle.frames.specs.Frames.{holds, frames}
 use Rattle.ones.specs.Ones.{ones-of}
 use Rattle.converter.specs.Paired.{Call, Converts, Call-taken, Search, by-search, by-convert, found-by, holds-by, frames-held, Every-search-exact, Paired}
@@ -65,6 +65,10 @@ module _ {w t : List ℕ} {c : Call} where
   search-worked (by-convert h) e =
       worked _ (ones-of t) (λ done. omega (arith, conversion-taken done .limits .hold-offset)) (h .answer) (h .occurrences-left) e
 
+  -- a search that is taken is for a pattern that is not empty
+  pub search-nonempty : {q : ℕ} → Search q w t c → Call-taken c → 1 ≤ length w
+  search-nonempty s e = search-worked s e .nonempty
+
   -- as many entries as are counted, in front of what the buffer held, are the occurrences
   found-right : Worked w t c → found-by c ≡ occurrences w t
   unfolding found-by
@@ -82,7 +86,14 @@ module _ {w t : List ℕ} {c : Call} where
       rw (h .moves-and-holds-left, done-only _ _ (h .answer) e)
       (in-front-take (frames q w t) (c .lent .frames) (length t) (length-frames q w t))
 
-  -- just its holds are holds among them
+  -- and answers the ones
+  pub ones-by : {q : ℕ} → Converts q w t c → Call-taken c → c .answer .ones ≡ ones-of t
+  unfolding if-done answered
+  ones-by {q} h e =
+      let done : convert-status-of q w t (c .lent .tables) (c .lent .found) (c .lent .frames) ≡ 0 = done-only _ _ (h .answer) e in
+      ap (λ (a : Answer). a .ones) (rw done at (h .answer))
+
+  -- just its holds are holds among its frames
   frames-right :
       {q : ℕ} → Converts q w t c → Call-taken c → Bytes t → frames-held (length t) c ≡ ascending (length t) (holds (length t) q (occurrences w t))
   unfolding frames-held

@@ -1,6 +1,6 @@
 -- Exactly the frames (b + q) modulo n of the occurrences b are holds (`Holds-right`), each for one occurrence (`Holds-once`): frame i just where an
 -- occurrence is q back from it around the ring. By induction on their list.
-use mathlib.Core.Bool.{cond}
+use mathlib.Core.Bool.{Bool, cond}
 use mathlib.Core.List.{List, [], _∷_, _++_}
 use mathlib.Core.Logic.{⊎-elim}
 use mathlib.Core.Path.{_≡_, refl, sym, _∙_}
@@ -18,8 +18,8 @@ use Rattle.tables.specs.Sets.{byte}
 pub use Rattle.steps.proofs.Occurrences.{occurrences-few}
 use Rattle.steps.specs.Occurrences.{occurrences}
 use Rattle.ring.proofs.Ascending.{passing-same}
-use Rattle.ring.proofs.Back.{back-inside, same-place, on-once}
-use Rattle.ring.proofs.Listed.{is-in-passing, is-in-map, ascending-count}
+use Rattle.ring.proofs.Back.{on-inverse}
+use Rattle.ring.proofs.Listed.{is-in-passing-moved, ascending-count}
 use Rattle.ring.proofs.Occurrences.{occurs-in, occurrences-passing, occurrences-ascend}
 use Rattle.ring.specs.Ring.{back, is-in, ascending}
 use Rattle.frames.specs.Frames.{hold, holds, with-holds, frames}
@@ -53,25 +53,26 @@ pub holds-right : Holds-right
 unfolding Holds-right frames
 holds-right q i w t h = with-holds-at hold i (holds (length t) q (occurrences w t)) t h
 
+-- position i of t is the hold of an occurrence of w
+abbrev pub held : (q : ℕ) (w t : List ℕ) (i : ℕ) → Bool
+held q w t i = is-in (holds (length t) q (occurrences w t)) i
+
 module _ (w t : List ℕ) (some : 1 ≤ length w) where
   -- position i is held just where the one that is q back from it is an occurrence
-  pub held-at : (q i : ℕ) → i < length t → is-in (holds (length t) q (occurrences w t)) i ≡ occurs-in w t (back (length t) i q)
+  pub held-at : (q i : ℕ) → i < length t → held q w t i ≡ occurs-in w t (back (length t) i q)
   unfolding holds
   held-at q i l =
-      let n = length t in
-      let some' : 1 ≤ n = omega arith in
-      is-in-map 0 n i (back n i q) (λ b. (b + q) % n) (occurrences w t) (occurrences-ascend w t some) (λ b h. same-place n some' b i q h l)
-      ∙ rw (occurrences-passing w t some) (is-in-passing n 0 (back n i q) (occurs-in w t) (omega arith) (omega (arith, back-inside n some' i q)))
+      rw (occurrences-passing w t some) (is-in-passing-moved (on-inverse (length t) q) (occurs-in w t) i l)
 
 -- in a text of bytes a frame is a hold just where it is held
 pub frame-held :
     (q i : ℕ) (w t : List ℕ) → ((k : ℕ) → byte t k < hold) → i < length t →
-    eqb (getD (frames q w t) i 0) hold ≡ is-in (holds (length t) q (occurrences w t)) i
+    eqb (getD (frames q w t) i 0) hold ≡ held q w t i
 unfolding Holds-right
 frame-held q i w t bytes h =
     rw (holds-right q i w t h)
     (⊎-elim (λ e. rw e) (λ e. rw e (ne-eqb (byte t i) hold (λ e. omega (arith, bytes i))))
-    (true-or-false (is-in (holds (length t) q (occurrences w t)) i)))
+    (true-or-false (held q w t i)))
 
 -- demand 3: after a conversion the holds are those of the occurrences
 pub holds-listed :
@@ -80,16 +81,14 @@ pub holds-listed :
 unfolding holds-of ascending
 holds-listed q w t bytes =
     rw (length-frames q w t)
-    (passing-same (length t) 0 (λ i. eqb (getD (frames q w t) i 0) hold) (is-in (holds (length t) q (occurrences w t)))
+    (passing-same (length t) 0 (λ i. eqb (getD (frames q w t) i 0) hold) (held q w t)
     (λ k l u. frame-held q k w t bytes (omega arith)))
 
 -- those of different occurrences are different
 pub holds-apart : (q : ℕ) (w t : List ℕ) → 1 ≤ length w → length (ascending (length t) (holds (length t) q (occurrences w t))) ≡ length (occurrences w t)
 unfolding holds
 holds-apart q w t some =
-    let n = length t in
-    ascending-count n (λ b. (b + q) % n) (λ b l. mod-lt (b + q) (omega arith)) (λ a b l l' e. on-once n (omega arith) a b q l l' e)
-    0 (occurrences w t) (occurrences-ascend w t some)
+    ascending-count (on-inverse (length t) q) 0 (occurrences w t) (occurrences-ascend w t some)
 
 pub holds-once : Holds-once
 unfolding Holds-once

@@ -2,12 +2,12 @@
 -- (`As-by-search`). An outcome gives what the definitions say of its status, and with a hold offset inside the pattern the two statuses are the same.
 use mathlib.Core.List.{List}
 use mathlib.Core.Path.{_≡_, refl, sym, _∙_, ap}
-use Prim.Native.Nat.{ℕ, zero, suc, _<_}
+use Prim.Native.Nat.{ℕ, _<_}
 use borrow.Author.Tests.{lt-leb}
 use lib.ListN.{length}
-use Rattle.answers.specs.Answers.{if-done, answered}
+use Rattle.answers.proofs.Answered.{status-answered}
+use Rattle.answers.specs.Answers.{if-done}
 use Rattle.answers.specs.Refusals.{first-of, job-refusals}
-use Rattle.answers.specs.declared.Answer.{Answer}
 use Rattle.tables.specs.Buffers.{Tables}
 use Rattle.tables.specs.declared.TableLengths.{TableLengths}
 use Rattle.matcher.specs.Search.{search-status, search-status-of, search-done}
@@ -35,12 +35,6 @@ frames-priced q w t lent left found found' r o e c h taken =
     rw (frames-by {w = w} {t = t} {c = c} {q = q} h taken)
     (pence-of {w = w} {lent = lent} {left = left} {found = found} {found' = found'} o e)
 
--- a search answers its status
-search-status-by : (s : ℕ) (w t : List ℕ) → answered s (search-done w t) .status ≡ s
-unfolding if-done answered
-search-status-by zero w t = refl
-search-status-by (suc s) w t = refl
-
 -- 5 does not hold
 same-status : (m q n found : ℕ) (l : TableLengths) → q < m → price-status m q n l found ≡ search-status m n l found
 unfolding price-status search-status first-of job-refusals
@@ -50,6 +44,6 @@ pub as-by-search : As-by-search
 unfolding As-by-search
 as-by-search q w t lent left searched found found' listed r a inside o h =
     let priced : Price-outcome-of (search-status-of w t lent found) q w t lent left found found' r = rw (same-status (length w) q _ _ _ inside) at o in (
-      status-of priced ∙ sym (ap (λ (x : Answer). x .status) (h .answer) ∙ search-status-by _ w t),
+      status-of priced ∙ sym (status-answered _ (search-done w t) (h .answer) refl),
       (priced .tables ∙ sym (h .tables), priced .occurrences-left ∙ sym (h .occurrences-left)),
     )

@@ -16,16 +16,16 @@ ascends-lower : (low low' high : ℕ) (l : List ℕ) → low ≤ low' → Ascend
 ascends-lower low low' high [] h a = tt
 ascends-lower low low' high (b ∷ later) h a = (omega arith, a .1, a .2)
 
-pub passing-ascends : (n i high : ℕ) (f : ℕ → Bool) → ((k : ℕ) → f k ≡ true → k < high) → Ascends i high (passing n i f)
+pub passing-ascends : (n i high : ℕ) (f : ℕ → Bool) → i + n ≤ high → Ascends i high (passing n i f)
 unfolding passing
 passing-ascends zero i high f h = tt
-passing-ascends (suc n) i high f h = go (f i) refl (passing-ascends n (suc i) high f h)
+passing-ascends (suc n) i high f h = go (f i) (passing-ascends n (suc i) high f (omega arith))
   where
     go :
-        (z : Bool) → f i ≡ z → Ascends (suc i) high (passing n (suc i) f) →
+        (z : Bool) → Ascends (suc i) high (passing n (suc i) f) →
         Ascends i high (cond z (i ∷ passing n (suc i) f) (passing n (suc i) f))
-    go true e later = (omega arith, h i e, later)
-    go false e later = ascends-lower i (suc i) high (passing n (suc i) f) (omega arith) later
+    go true later = (omega arith, omega arith, later)
+    go false later = ascends-lower i (suc i) high (passing n (suc i) f) (omega arith) later
 
 -- tests that agree on the run pass the same numbers
 pub passing-same : (n i : ℕ) (f g : ℕ → Bool) → ((k : ℕ) → i ≤ k → k < i + n → f k ≡ g k) → passing n i f ≡ passing n i g

@@ -7,8 +7,7 @@ use Prim.Native.Nat.{ℕ, zero, suc, _+_, _≤_, _<_}
 use native.Mathlib.Omega.{arith}
 use borrow.Author.Tests.{le-leb, lt-leb}
 use lib.ListN.{length}
-use Rattle.steps.proofs.Occurrences.{occurs-inside}
-use Rattle.steps.proofs.Text.{span-reaches, span-covers, span-few, span-ends}
+use Rattle.steps.proofs.Text.{span-reaches, span-covers, span-few}
 use Rattle.steps.specs.Occurrences.{occurs, occurrences-from, all-occurrences, occurrences}
 use Rattle.steps.specs.Text.{shown, span}
 use Rattle.ring.proofs.Ascending.{Ascends, passing-ascends, passing-same}
@@ -38,9 +37,7 @@ module _ (w t : List ℕ) (some : 1 ≤ length w) where
 
   -- they ascend, each once, below n
   pub occurrences-ascend : Ascends 0 (length t) (occurrences w t)
-  occurrences-ascend =
-      rw occurrences-passing
-      (passing-ascends (length t) 0 (length t) _ (λ k e. span-ends w t some k (occurs-inside (shown t) (span w t) w k e)))
+  occurrences-ascend = rw occurrences-passing (passing-ascends (length t) 0 (length t) _ (omega arith))
 
 pub occurrences-around : Occurrences-around
 unfolding Occurrences-around occurs shown

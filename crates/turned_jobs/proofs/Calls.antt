@@ -5,14 +5,10 @@ use mathlib.Core.Path.{_≡_, _∙_, ap}
 use Prim.Native.Nat.{ℕ, _≤_, _<_}
 use native.Mathlib.Omega.{arith}
 use lib.ListN.{length}
-use Rattle.answers.proofs.Answered.{done-only}
-use Rattle.answers.specs.Answers.{if-done, answered}
 use Rattle.answers.specs.Bytes.{Bytes}
-use Rattle.answers.specs.declared.Answer.{Answer}
-use Rattle.ones.specs.Ones.{ones-of, count-answer}
-use Rattle.converter.proofs.Paired.{frames-by, every-search-exact}
-use Rattle.converter.specs.Convert.{convert-status-of}
-use Rattle.converter.specs.Paired.{Call, Converts, Call-taken, Search, Every-search-exact}
+use Rattle.ones.specs.Ones.{count-answer}
+use Rattle.converter.proofs.Paired.{frames-by, ones-by, every-search-exact}
+use Rattle.converter.specs.Paired.{Call, Call-taken, Search, Every-search-exact}
 use Rattle.turn.proofs.Calls.{turn-taken, turn-done}
 use Rattle.turn.proofs.Turned.{length-turned}
 use Rattle.turn.specs.Turned.{turned, turned-index}
@@ -21,13 +17,6 @@ use Rattle.turned_jobs.proofs.Occurrences.{occurrences-turned, number-t
 use Rattle.turned_jobs.proofs.Ones.{ones-turned}
 use Rattle.turned_jobs.specs.Calls.{Search-turned, Searches-turned, Counts-turned}
 use Rattle.turned_jobs.specs.Promises.{Occurrences-turned, Number-turned, Frames-turned, Ones-turned}
-
--- a conversion that is taken answers the ones
-ones-by : {q : ℕ} {w t : List ℕ} {c : Call} → Converts q w t c → Call-taken c → c .answer .ones ≡ ones-of t
-unfolding if-done answered
-ones-by {q} {w} {t} {c} h e =
-    let done : convert-status-of q w t (c .lent .tables) (c .lent .found) (c .lent .frames) ≡ 0 = done-only _ _ (h .answer) e in
-    ap (λ (a : Answer). a .ones) (rw done at (h .answer))
 
 -- what a search of the job and a search of the job turned, both taken, have in common
 alike :

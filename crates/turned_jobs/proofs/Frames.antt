@@ -13,11 +13,10 @@ use lib.Seq.{ext-getD}
 use Rattle.answers.proofs.Bytes.{bytes-entry}
 use Rattle.answers.specs.Bytes.{Bytes}
 use Rattle.tables.specs.Sets.{byte}
-use Rattle.steps.specs.Occurrences.{occurrences}
 use Rattle.ring.proofs.Back.{back-inside, back-on}
-use Rattle.ring.specs.Ring.{back, is-in}
-use Rattle.frames.proofs.Holds.{length-frames, holds-right, held-at}
-use Rattle.frames.specs.Frames.{hold, holds, frames}
+use Rattle.ring.specs.Ring.{back}
+use Rattle.frames.proofs.Holds.{length-frames, holds-right, held, held-at}
+use Rattle.frames.specs.Frames.{hold, frames}
 use Rattle.frames.specs.Promises.{Holds-right}
 use Rattle.mirror.specs.Mirrored.{mirrored}
 use Rattle.turn.proofs.Turned.{mirrored-if, index-inside, length-turned-by, turned-by-entry, length-turned, turned-entry}
@@ -44,10 +43,6 @@ position-back way m n q i h l = cases (reverses way)
         reversed-only m n some a b (back-inside n some (n - 1 - i) q)
         (rw (whole, suc-mod (a + q + (b + (m - 1 - q))) n, both) (sym (suc-mod (n - 1 - i + i) n) ∙ rw whole' (mod-self n)))
     cases false = refl
-
--- position i of t is the hold of an occurrence of w
-abbrev held : (q : ℕ) (w t : List ℕ) (i : ℕ) → Bool
-held q w t i = is-in (holds (length t) q (occurrences w t)) i
 
 -- frame i of the job turned is held just where frame i turned of the job is
 held-turned :

@@ -16,14 +16,14 @@ use Rattle.steps.specs.Occurrences.{occurrences}
 use Rattle.steps.specs.Text.{shown, span}
 use Rattle.ring.proofs.Ascending.{Ascends, passing-same}
 use Rattle.ring.proofs.Back.{same-test, other-end}
-use Rattle.ring.proofs.Listed.{is-in-passing, is-in-map, ascending-count}
+use Rattle.ring.proofs.Listed.{passing-moved, ascending-count}
 use Rattle.ring.proofs.Occurrences.{occurs-in, occurrences-passing, occurrences-ascend}
-use Rattle.ring.specs.Ring.{is-in, passing, ascending}
+use Rattle.ring.specs.Ring.{passing, ascending}
 use Rattle.mirror.specs.Mirrored.{mirrored}
 use Rattle.turn.proofs.Turned.{mirrored-if, index-inside, length-turned, turned-entry, turned-twice}
 use Rattle.turn.specs.Promises.{Turned-twice}
 use Rattle.turn.specs.Turned.{reverses, turned, turned-index}
-use Rattle.turned_jobs.proofs.Reversed.{reversed-inside, reversed-turn, reversed-twice, reversed-test, reversed-once}
+use Rattle.turned_jobs.proofs.Reversed.{reversed-inside, reversed-turn, reversed-twice, reversed-inverse}
 use Rattle.turned_jobs.specs.Promises.{reversed-position, turned-positions, Occurrences-turned, Number-turned}
 
 -- position b of a ring of n, turned, for a pattern of m
@@ -32,23 +32,15 @@ turned-position way m n b = cond (reverses way) (reversed-position m n b) b
 
 -- the positions that pass, turned, are those that pass the test turned
 passing-turned :
-    (way m n : ℕ) (f g : ℕ → Bool) → Ascends 0 n (passing n 0 f) → ((b : ℕ) → b < n → g b ≡ f (turned-position way m n b)) →
+    (way m n : ℕ) (f g : ℕ → Bool) → ((b : ℕ) → b < n → g b ≡ f (turned-position way m n b)) →
     passing n 0 g ≡ turned-positions way m n (passing n 0 f)
-unfolding turned-positions ascending
-passing-turned way m n f g a = cases (reverses way)
+unfolding turned-positions
+passing-turned way m n f g = cases (reverses way)
   where
     cases :
         (z : Bool) → ((b : ℕ) → b < n → g b ≡ f (cond z (reversed-position m n b) b)) →
-        passing n 0 g ≡ cond z (passing n 0 (is-in (map (reversed-position m n) (passing n 0 f)))) (passing n 0 f)
-    cases true same =
-        passing-same n 0 g _
-        (λ b l h.
-        let h' : b < n = omega arith in
-        let some : 1 ≤ n = omega arith in
-        let b' = reversed-position m n b in
-        same b h'
-        ∙ sym (is-in-map 0 n b b' (reversed-position m n) (passing n 0 f) a (λ c u. reversed-test m n some c b u h')
-        ∙ is-in-passing n 0 b' f (omega arith) (omega (arith, reversed-inside m n some b))))
+        passing n 0 g ≡ cond z (ascending n (map (reversed-position m n) (passing n 0 f))) (passing n 0 f)
+    cases true same = passing-moved (reversed-inverse m n) g f same
     cases false same = passing-same n 0 g f (λ b l h. same b (omega arith))
 
 -- the position turned is one of the ring, and turned again the position that it was
@@ -135,8 +127,7 @@ occurrences-turned way w t some hw ht =
     let t' = turned way t in
     let size = length-turned way w in
     rw (occurrences-passing w' t' (omega arith), occurrences-passing w t some, length-turned way t)
-    (passing-turned way (length w) (length t) (occurs-in w t) (occurs-in w' t')
-    (rw (occurrences-passing w t some) at (occurrences-ascend w t some)) (occurs-there way w t some hw ht))
+    (passing-turned way (length w) (length t) (occurs-in w t) (occurs-in w' t') (occurs-there way w t some hw ht))
 
 -- turned, the positions are as many
 length-positions : (way m n : ℕ) (bs : List ℕ) → Ascends 0 n bs → length (turned-positions way m n bs) ≡ length bs
@@ -144,9 +135,7 @@ unfolding turned-positions
 length-positions way m n bs a = cases (reverses way)
   where
     cases : (z : Bool) → length (cond z (ascending n (map (reversed-position m n) bs)) bs) ≡ length bs
-    cases true =
-        ascending-count n (reversed-position m n) (λ b l. reversed-inside m n (omega arith) b)
-        (λ b c l. reversed-once m n (omega arith) b c l) 0 bs a
+    cases true = ascending-count (reversed-inverse m n) 0 bs a
     cases false = refl
 
 pub number-turned : Number-turned
