@@ -31,11 +31,14 @@ use Rattle.steps.specs.Occurrences.{occurs, occurrences-from, all-occurrences, 
 use Rattle.steps.specs.Bound.{bound}
 use Rattle.steps.specs.Steps.{agreeing, row, shifts, step, alignments-from, alignments, compared, is-occurrence, repeat-after, comparisons-of, listed, comparisons}
 use Rattle.steps.specs.Text.{shown, span}
+use Rattle.ring.specs.Ring.{back, is-in, passing, ascending}
 use Rattle.matcher.specs.Search.{search-status, found-left}
 use Rattle.frames.specs.Frames.{holds, with-holds, frames}
 use Rattle.ones.specs.Ones.{ones-of, count-status, count-answer}
 use Rattle.ones.specs.Words.{word-of}
 use Rattle.converter.specs.Convert.{convert-status, frames-left}
+use Rattle.converter.specs.Paired.{by-search, by-convert}
+use Rattle.rotated_jobs.specs.Promises.{rotated, rotated-positions}
 use Rattle.mirror.specs.Mirrored.{reversed-bits, mirrored}
 use Rattle.turn.specs.Turn.{turn-status, turn-answer, turned-left}
 use Rattle.turn.specs.Turned.{turned-by, turned, turned-index}
@@ -95,6 +98,7 @@ unfolding bytes Holds examples All All-hold
     agreeing row shifts step alignments-from alignments compared is-occurrence repeat-after comparisons-of listed comparisons
     holds with-holds frames ones ones-of word-of line done-report seek-report
     reversed-bits mirrored turned-by turned turned-index turn-status turn-answer turned-left from-entry in-front
+    back is-in passing ascending rotated rotated-positions
     restored converts-again is-conversion restore-status restored-left
     byte-price sum-from total rebate cost price-status price-answer tables-left stored-Δ1 found-left
     frames-left read-answer write-answer report-answer
@@ -137,4 +141,5 @@ examples-hold =
     then (refl, (refl, (refl, (refl, (refl, (refl, (refl, (refl, (refl, (refl, (refl, (refl, (refl, (refl, (refl, (refl, (refl, (refl, (refl, (refl, (refl, (refl, (refl, tt)))))))))))))))))))))))
     then (refl, (refl, (refl, (refl, (refl, (refl, (refl, (refl, (refl, (refl, (refl, (refl, (refl, (refl, (refl, (refl, (refl, (refl, (refl, (record { answer = refl; tables = refl }, (record { answer = refl; tables = refl }, (record { answer = refl; tables = refl }, (record { answer = refl; tables = refl }, tt)))))))))))))))))))))))
     then (refl, ((refl, refl), (refl, (refl, ((refl, refl), ((refl, refl), (refl, (refl, (refl, (refl, (refl, (record { answer = refl; text-left = refl }, (record { answer = refl; text-left = refl }, (refl, (record { answer = refl; tables = refl; occurrences-left = refl; moves-and-holds-left = refl }, (record { answer = refl; tables = refl; occurrences-left = refl }, (record { answer = refl; tables = refl; occurrences-left = refl }, (record { answer = refl; tables = refl }, (refl, (refl, (refl, (refl, tt))))))))))))))))))))))
+    then (refl, (refl, ((refl, refl), (refl, (refl, (refl, ((refl, refl), (refl, ((refl, refl), (refl, (refl, ((refl, refl), (refl, (refl, (refl, (refl, (refl, ((by-convert (record { answer = refl; tables = refl; occurrences-left = refl; moves-and-holds-left = refl }), refl, by-convert (record { answer = refl; tables = refl; occurrences-left = refl; moves-and-holds-left = refl }), refl, record { tables = refl; found = refl; frames = refl }), ((by-search (record { answer = refl; tables = refl; occurrences-left = refl }), refl, by-search (record { answer = refl; tables = refl; occurrences-left = refl }), refl, record { tables = refl; found = refl; frames = refl }), tt)))))))))))))))))))
     then tt

@@ -26,6 +26,9 @@ use Rattle.ones.specs.Ones.{ones-of, count-status, count-answer}
 use Rattle.ones.specs.Words.{word-of}
 use Rattle.frames.specs.Frames.{frames}
 use Rattle.converter.specs.Convert.{convert-status, convert-done, Convert-outcome}
+use Rattle.converter.specs.Paired.{Buffers, Call, Call-taken, Search}
+use Rattle.rotated_jobs.specs.Calls.{Lent-as-long}
+use Rattle.rotated_jobs.specs.Promises.{rotated, rotated-positions}
 use Rattle.turn.specs.Turn.{turn-status, turn-answer, turned-left, Turn-outcome}
 use Rattle.turn.specs.Turned.{turned}
 use Rattle.turn.specs.declared.TurnAnswer.{TurnAnswer}
@@ -93,6 +96,9 @@ pub data Claim : Type 0 where
   numbers-are : (told : Explanation) → (given : ExplainAnswer) → Claim
   explaining-gives : (m n position : ℕ) → (lengths : TableLengths) → (status : ℕ) → Claim
   explaining-leaves : (position : ℕ) → (w t : List ℕ) → (lent left : Tables) → (given : ExplainAnswer) → Claim
+  rotated-are : (r : ℕ) → (bytes rotated-bytes : List ℕ) → Claim
+  rotated-positions-are : (n r : ℕ) → (positions turned-back : List ℕ) → Claim
+  both-searched : (r q : ℕ) → (w t : List ℕ) → (first later : Call) → Claim
 
 -- the bytes of what is written in quotes: each character's code
 unfoldable pub bytes : String → List ℕ
@@ -159,6 +165,10 @@ Holds (explanation-is w t position told) = explanation-in position w t ≡ told
 Holds (numbers-are told given) = explained told ≡ given
 Holds (explaining-gives m n position l status) = explain-status m n position l ≡ status
 Holds (explaining-leaves position w t lent left given) = Explain-outcome position w t lent left given
+Holds (rotated-are r bytes rotated-bytes) = rotated r bytes ≡ rotated-bytes
+Holds (rotated-positions-are n r positions turned-back) = rotated-positions n r positions ≡ turned-back
+Holds (both-searched r q w t first later) =
+    Search q w t first × Call-taken first × Search q w (rotated r t) later × Call-taken later × Lent-as-long first later
 
 -- a row: its number, up to 10 that of document 01, and what it claims
 pub record Example : Type 0 where
@@ -174,6 +184,14 @@ room o d2 d1 d3 = record { order = o; delta2 = d2; delta1 = d1; delta3 = d3 }
 
 abbrev no-room : TableLengths
 no-room = room 0 0 0 0
+
+-- a whole call: the buffers that it is lent, what it leaves in them, and its answer
+abbrev call : (before after : Buffers) → (given : Answer) → Call
+call x x' r = record { lent = x; left = x'; answer = r }
+
+-- its buffers: for tables, finds and frames
+abbrev buffers : Tables → (found frames : List ℕ) → Buffers
+buffers x found frame = record { tables = x; found = found; frames = frame }
 
 -- an answer by its fields: the number, the finds, the looks, the holes, p and the bound
 abbrev answer : (status h C ones p bound : ℕ) → Answer
@@ -765,6 +783,34 @@ examples =
     ∷ explanation-is aaaa (aaaa ++ (c ∷ [])) 4 (PassedOver 1 0 LongRepeat)
     ∷ explanation-is (a ∷ c ∷ a ∷ []) (a ∷ c ∷ c ∷ []) 2 (PassedOver 1 0 Order)
     ∷ explanation-is acaca (c ∷ a ∷ []) 0 (Tried 4)
+    ∷ [])
+    -- Document 02, "Lacing at another card": the listing started 1, 2 and 5 cards later. Its finds 0 and 4 are turned back around the ring, again
+    -- ascending, and the frames turned alike; the looks differ, and the bound holds for each start, also where finds add to it. A ring shorter than its
+    -- motif. Whole calls: a ring is converted, and then started a card later with the buffers as they were left, with 3 looks and with 2; and searched
+    ∷ row 38
+    (rotated-are 1 listing (a ∷ c ∷ a ∷ a ∷ a ∷ c ∷ a ∷ a ∷ a ∷ [])
+    ∷ rotated-positions-are 9 1 (0 ∷ 4 ∷ []) (3 ∷ 8 ∷ [])
+    ∷ occurrences-are aacaa (rotated 1 listing) (3 ∷ 8 ∷ [])
+    ∷ frames-are 2 aacaa (rotated 1 listing) (a ∷ 256 ∷ a ∷ a ∷ a ∷ 256 ∷ a ∷ a ∷ a ∷ [])
+    ∷ answers-are (answered 0 (convert-done aacaa listing)) (answer 0 2 13 18 3 21)
+    ∷ answers-are (answered 0 (convert-done aacaa (rotated 1 listing))) (answer 0 2 15 18 3 21)
+    ∷ occurrences-are aacaa (rotated 2 listing) (2 ∷ 7 ∷ [])
+    ∷ answers-are (answered 0 (convert-done aacaa (rotated 2 listing))) (answer 0 2 12 18 3 21)
+    ∷ occurrences-are aacaa (rotated 5 listing) (4 ∷ 8 ∷ [])
+    ∷ answers-are (answered 0 (convert-done aacaa (rotated 5 listing))) (answer 0 2 18 18 3 21)
+    ∷ frames-are 2 aacaa (rotated 5 listing) (a ∷ 256 ∷ a ∷ a ∷ a ∷ a ∷ 256 ∷ a ∷ a ∷ [])
+    ∷ occurrences-are acaca (rotated 1 (c ∷ a ∷ [])) (0 ∷ [])
+    ∷ rotated-are 2 (a ∷ b ∷ c ∷ []) (c ∷ a ∷ b ∷ [])
+    ∷ rotated-are 3 (a ∷ b ∷ c ∷ []) (a ∷ b ∷ c ∷ [])
+    ∷ rotated-positions-are 3 3 (0 ∷ 2 ∷ []) (0 ∷ 2 ∷ [])
+    ∷ answers-are (answered 0 (convert-done acaca acacac)) (answer 0 3 15 12 2 18)
+    ∷ answers-are (answered 0 (convert-done acaca (rotated 1 acacac))) (answer 0 3 16 12 2 18)
+    ∷ both-searched 1 1 (a ∷ c ∷ []) (c ∷ a ∷ [])
+    (call (buffers (lent (room 4 4 513 3)) (replicate 3 9) (replicate 3 9)) (buffers left-by-ac (1 ∷ 9 ∷ 9 ∷ []) (256 ∷ a ∷ 9 ∷ [])) (answer 0 1 3 4 2 4))
+    (call (buffers left-by-ac (1 ∷ 9 ∷ 9 ∷ []) (256 ∷ a ∷ 9 ∷ [])) (buffers left-by-ac (0 ∷ 9 ∷ 9 ∷ []) (a ∷ 256 ∷ 9 ∷ [])) (answer 0 1 2 4 2 4))
+    ∷ both-searched 1 1 (a ∷ c ∷ []) (c ∷ a ∷ [])
+    (call (buffers (lent (room 4 4 513 3)) (replicate 3 9) []) (buffers left-by-ac (1 ∷ 9 ∷ 9 ∷ []) []) (answer 0 1 3 0 2 4))
+    (call (buffers left-by-ac (1 ∷ 9 ∷ 9 ∷ []) []) (buffers left-by-ac (0 ∷ 9 ∷ 9 ∷ []) []) (answer 0 1 2 0 2 4))
     ∷ [])
     ∷ []
 

@@ -1,0 +1,43 @@
+-- Of whole calls: a ring, and the ring started r bytes later, searched and converted (`Searches-rotated`, `Status-rotated`).
+-- A call that is taken answers and leaves what the definitions give, and what is promised of these does the rest; its status goes by lengths alone.
+use mathlib.Core.Path.{refl, sym, _∙_}
+use Rattle.answers.proofs.Answered.{status-answered}
+use Rattle.matcher.specs.Search.{search-done}
+use Rattle.converter.proofs.Paired.{search-nonempty, frames-by, ones-by, every-search-exact}
+use Rattle.converter.specs.Convert.{convert-done}
+use Rattle.converter.specs.Paired.{Every-search-exact}
+use Rattle.rotated_jobs.proofs.Frames.{frames-rotated}
+use Rattle.rotated_jobs.proofs.Occurrences.{occurrences-rotated, number-rotated, bound-rotated}
+use Rattle.rotated_jobs.proofs.Rotated.{length-rotated, ones-rotated}
+use Rattle.rotated_jobs.specs.Calls.{Searches-rotated, Status-rotated}
+use Rattle.rotated_jobs.specs.Promises.{rotated, Occurrences-rotated, Number-rotated, Frames-rotated, Ones-rotated, Bound-rotated}
+
+pub searches-rotated : Searches-rotated
+unfolding Searches-rotated Every-search-exact Occurrences-rotated Number-rotated Frames-rotated Ones-rotated Bound-rotated
+searches-rotated r q w t h c d s e s' e' =
+    let u = rotated r t in
+    let x = every-search-exact q w t c s e in
+    let y = every-search-exact q w u d s' e' in
+    let some = search-nonempty s e in
+    record {
+      occurrences-rotated = rw (x .occurrences-found, y .occurrences-found) (occurrences-rotated r w t some h);
+      same-number = rw (x .occurrences-counted, y .occurrences-counted) (number-rotated r w t some h);
+      frames-rotated = λ v v'. rw (frames-by v e, rw length-rotated at (frames-by v' e')) (frames-rotated r q w t some h);
+      same-ones = λ v v'. rw (ones-by v e, ones-by v' e') (ones-rotated r t);
+      same-period = y .period-answered ∙ sym (x .period-answered);
+      same-bound = rw (x .bound-answered, y .bound-answered) (bound-rotated r w t some h .0);
+      few = x .few;
+      few-rotated = y .few;
+    }
+
+pub status-rotated : Status-rotated
+unfolding Status-rotated
+status-rotated r q w t c d same =
+    let u = rotated r t in (
+      λ h h'.
+          status-answered _ (search-done w u) (h' .answer) refl
+          ∙ rw (same .tables, same .found, length-rotated) (sym (status-answered _ (search-done w t) (h .answer) refl)),
+      λ h h'.
+          status-answered _ (convert-done w u) (h' .answer) refl
+          ∙ rw (same .tables, same .found, same .frames, length-rotated) (sym (status-answered _ (convert-done w t) (h .answer) refl)),
+    )

@@ -1,0 +1,4 @@
+pub mod Rotated
+pub mod Occurrences
+pub mod Frames
+pub mod Calls
