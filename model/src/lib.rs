@@ -1,4 +1,4 @@
-//! A plain model of document 01 and of document 02's requests U1, U2, U3 and U5 to U9, written from
+//! A plain model of document 01 and of document 02's requests U1, U2, U3 and U5 to U10, written from
 //! these documents alone; U4 changes no answer.
 //!
 //! It follows the definitions word by word and takes no short cuts: the tables by their sets, a byte

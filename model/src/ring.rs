@@ -16,3 +16,16 @@ pub fn span(m: usize, n: usize) -> usize {
         n + m - 1
     }
 }
+
+/// A ring started r entries later: those from r on, then those before.
+pub fn started_later<T: Copy>(ring: &[T], r: usize) -> Vec<T> {
+    [&ring[r..], &ring[..r]].concat()
+}
+
+/// Positions of a ring of n bytes turned back by r around it: where they are in the ring started r bytes
+/// later, ascending again.
+pub fn turned_back(positions: &[usize], n: usize, r: usize) -> Vec<usize> {
+    let mut turned: Vec<usize> = positions.iter().map(|b| (b + n - r) % n).collect();
+    turned.sort_unstable();
+    turned
+}

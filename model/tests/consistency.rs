@@ -16,6 +16,7 @@ use ruffarmoire_model::gen::{Random, Shape, SHAPES};
 use ruffarmoire_model::job::{self, Job};
 use ruffarmoire_model::price::{cost, rebate, total};
 use ruffarmoire_model::restore::restored;
+use ruffarmoire_model::ring::{started_later, turned_back};
 use ruffarmoire_model::seek::seek;
 use ruffarmoire_model::steps::{bound, search_with, Search};
 use ruffarmoire_model::tables::{in_neg, in_pos, period, Tables};
@@ -578,6 +579,49 @@ fn jobs_turned() {
         check_turned(&SHAPES[round % SHAPES.len()].job(&mut random, m, n));
     }
     check_turned(&Shape::Planted.job(&mut random, 128, 16_384));
+}
+
+/// Started at each of its bytes, and after the last, a ring has the same occurrences, turned back and again
+/// ascending, the same frames started there and the same ones, and the comparisons keep the bound. Gives
+/// whether their number differs anywhere.
+fn check_started_later(tables: &Tables, job: &Job) -> bool {
+    let n = job.text.len();
+    let done = search_with(tables, &job.pattern, &job.text);
+    let frames = convert::frames(&job.pattern, job.hold, &job.text);
+    let mut differ = false;
+    for r in 0..=n {
+        let text = started_later(&job.text, r);
+        let there = check_search(tables, &job.pattern, &text);
+        assert_eq!(there.occurrences, turned_back(&done.occurrences, n, r));
+        assert_eq!(
+            convert::frames(&job.pattern, job.hold, &text),
+            started_later(&frames, r)
+        );
+        assert_eq!(convert::ones(&text), convert::ones(&job.text));
+        differ |= there.comparisons.len() != done.comparisons.len();
+    }
+    differ
+}
+
+#[test]
+fn rings_started_at_every_byte() {
+    let mut tables = LastTables::default();
+    let mut different = 0;
+    let all = searches::all_short()
+        .chain(searches::short())
+        .chain(rings::short().step_by(3));
+    for (round, (pattern, text)) in all.enumerate() {
+        let job = Job {
+            hold: round % pattern.len(),
+            pattern,
+            text,
+        };
+        different += usize::from(check_started_later(tables.of(&job.pattern), &job));
+    }
+    assert!(
+        different > 10_000,
+        "only {different} rings had other counts"
+    );
 }
 
 /// Frames over three bytes and the hold are put back just where some text over these bytes converts

@@ -4,6 +4,7 @@ use std::marker::PhantomData;
 
 use ruffarmoire_model::answers::Answer;
 use ruffarmoire_model::calls::{self, Outcome};
+use ruffarmoire_model::ring::started_later;
 
 use super::searching::{check_exact, check_examples, Input, Lengths, Lent, SearchingCall};
 use super::table_buffers::LentTables;
@@ -58,6 +59,11 @@ pub fn worked_examples<T: MatcherCalls>() {
     expect(&[A; 4], &[A; 6], &[0, 1, 2, 3, 4, 5], 9);
     expect(&[A], &[A, C, A], &[0, 2], 3);
     expect(&[A, A], &[A], &[0], 2);
+    // The listing started one, two and five bytes later.
+    for (r, occurrences, comparisons) in [(1, [3, 8], 15), (2, [2, 7], 12), (5, [4, 8], 18)] {
+        let text = started_later(&listing, r);
+        expect(&[A, A, C, A, A], &text, &occurrences, comparisons);
+    }
     // Two copies that share a byte, of a pattern of more than three periods.
     let pattern = [A, A, C, A, A, C, A, A, C, A, A];
     let sharing = [&pattern[..], &pattern[1..]].concat();

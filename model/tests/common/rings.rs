@@ -5,6 +5,7 @@
 use std::collections::BTreeSet;
 
 use ruffarmoire_model::gen::{Random, Shape};
+use ruffarmoire_model::ring::started_later;
 use ruffarmoire_model::MAX_TEXT;
 
 use super::repeats::{another_of, random_root, run, FOREIGN};
@@ -29,12 +30,6 @@ pub fn occurrences(pattern: &[u8], text: &[u8]) -> Vec<usize> {
         .collect()
 }
 
-/// The same ring with its seam elsewhere: begun so many bytes later.
-fn begun_later(text: &[u8], later: usize) -> Vec<u8> {
-    let (front, rest) = text.split_at(later % text.len());
-    [rest, front].concat()
-}
-
 /// A ring with the pattern laid over its seam, so many of the pattern's bytes before it. Where the
 /// ring is shorter than the pattern, the pattern's last bytes cover the others.
 fn laid_over_the_seam(text: &[u8], pattern: &[u8], before: usize) -> Vec<u8> {
@@ -43,7 +38,7 @@ fn laid_over_the_seam(text: &[u8], pattern: &[u8], before: usize) -> Vec<u8> {
     for (j, &byte) in pattern.iter().enumerate() {
         ring[j % n] = byte;
     }
-    begun_later(&ring, before)
+    started_later(&ring, before % n)
 }
 
 /// Rings of n bytes for a pattern: its bytes at random; the same with the pattern laid over the seam
@@ -101,7 +96,7 @@ fn shorter_than_the_pattern(lengths: impl Iterator<Item = usize>) -> impl Iterat
             };
             let mut rings = Vec::new();
             for later in (0..n).step_by(n / 12 + 1) {
-                let whole = begun_later(&root, later);
+                let whole = started_later(&root, later);
                 for position in [0, n - 1] {
                     let mut broken = whole.clone();
                     broken[position] = FOREIGN;
@@ -191,7 +186,7 @@ pub fn largest() -> impl Iterator<Item = Pair> {
             broken[position] = FOREIGN;
             pairs.push((run(&root, m), broken));
         }
-        pairs.push((run(&root, m), begun_later(&whole, p / 2)));
+        pairs.push((run(&root, m), started_later(&whole, p / 2)));
         // Where the period does not fit the length, the seam is a break.
         pairs.push((run(&root, m), run(&root, MAX_TEXT)));
     }

@@ -11,6 +11,7 @@ use ruffarmoire_model::answers::Answer;
 use ruffarmoire_model::calls::{Outcome, TableLengths};
 use ruffarmoire_model::convert;
 use ruffarmoire_model::gen::{Random, Shape};
+use ruffarmoire_model::ring::{started_later, turned_back};
 use ruffarmoire_model::steps::search_with;
 use ruffarmoire_model::tables::Tables;
 
@@ -81,6 +82,9 @@ macro_rules! bound_tests {
             long_repeats_with_any_end,
             rings_by_their_patterns,
             rings_that_agree_where_compared,
+            short_rings_started_at_every_byte,
+            longer_rings_started_at_every_byte,
+            largest_rings_started_elsewhere,
         );
     };
 }
@@ -635,21 +639,35 @@ pub fn rings_by_their_patterns<T: SearchingCall<Answer = Answer>>() {
     }
 }
 
-/// What demand 3 compares in two searches: the answer but for the ones, the occurrences, and where the
-/// call takes frames, the holds.
+/// What a call within the limits answers, and the occurrences and frames that it leaves; no frames where
+/// it takes none.
 fn searched<T: SearchingCall<Answer = Answer>>(
     input: Input,
     buffers: &mut Buffers,
-) -> (Answer, Vec<u16>, Vec<usize>) {
+) -> (Answer, Vec<usize>, Vec<u16>) {
     let answer = T::call(input, buffers.lent());
     assert_eq!(answer.status, 0, "{input}");
-    let found = buffers.found.lent()[..answer.occurrences as usize].to_vec();
-    let mut holds = Vec::new();
+    let found = &buffers.found.lent()[..answer.occurrences as usize];
+    let found = found.iter().map(|&b| b.into()).collect();
+    let frames = if T::TAKES_FRAMES {
+        buffers.frames.lent()[..input.text.len()].to_vec()
+    } else {
+        Vec::new()
+    };
+    (answer, found, frames)
+}
+
+/// What demand 3 compares in two searches: the answer but for the ones, the occurrences, and where the
+/// call takes frames, the holds.
+fn decided<T: SearchingCall<Answer = Answer>>(
+    input: Input,
+    buffers: &mut Buffers,
+) -> (Answer, Vec<usize>, Vec<usize>) {
+    let (answer, found, frames) = searched::<T>(input, buffers);
+    let holds: Vec<usize> = (0..frames.len())
+        .filter(|&x| frames[x] == convert::HOLD)
+        .collect();
     if T::TAKES_FRAMES {
-        let frames = &buffers.frames.lent()[..input.text.len()];
-        holds = (0..frames.len())
-            .filter(|&x| frames[x] == convert::HOLD)
-            .collect();
         // Each occurrence has a hold of its own.
         assert_eq!(holds.len(), found.len(), "{input}");
     }
@@ -681,13 +699,72 @@ pub fn rings_that_agree_where_compared<T: SearchingCall<Answer = Answer>>() {
             text: &text,
             ..input
         };
-        let first = searched::<T>(input, &mut buffers);
-        assert_eq!(
-            searched::<T>(other, &mut buffers),
-            first,
-            "{input}, {other}"
-        );
+        let first = decided::<T>(input, &mut buffers);
+        assert_eq!(decided::<T>(other, &mut buffers), first, "{input}, {other}");
         different += usize::from(text != input.text);
     });
     assert!(different > 1_000, "only {different} rings differed");
+}
+
+/// Each ring is searched as it is and started later; `later` gives by how many bytes, for a ring of n. It
+/// has the same occurrences, turned back around it and again ascending, and where the call takes frames,
+/// the same started as much later; of the answer only the comparisons may differ, within the bound. Gives
+/// how often they do.
+fn check_started_later<T: SearchingCall<Answer = Answer>>(
+    rings: impl Iterator<Item = Pair>,
+    later: impl Fn(usize) -> Vec<usize>,
+) -> usize {
+    let [mut buffers, _] = Buffers::fillings(128, 16_384, Lengths::needed::<T>(128, 16_384));
+    let mut different = 0;
+    for_each(rings, |input| {
+        let n = input.text.len();
+        let (answer, found, frames) = searched::<T>(input, &mut buffers);
+        for r in later(n) {
+            let text = started_later(input.text, r);
+            let other = Input {
+                text: &text,
+                ..input
+            };
+            let (answer_there, found_there, frames_there) = searched::<T>(other, &mut buffers);
+            let context = || format!("started {r} later: {input}");
+            assert_eq!(found_there, turned_back(&found, n, r), "{}", context());
+            if T::TAKES_FRAMES {
+                assert_eq!(frames_there, started_later(&frames, r), "{}", context());
+            }
+            let expected = Answer {
+                comparisons: answer_there.comparisons,
+                ..answer
+            };
+            assert_eq!(answer_there, expected, "{}", context());
+            assert!(expected.comparisons <= expected.bound, "{}", context());
+            different += usize::from(expected.comparisons != answer.comparisons);
+        }
+    });
+    different
+}
+
+/// Every pattern of 1 to 4 bytes in every ring of up to 9, over two bytes, and short ones of every shape,
+/// started at each of their bytes and after the last, which is the ring as it was.
+pub fn short_rings_started_at_every_byte<T: SearchingCall<Answer = Answer>>() {
+    let all = searches::all_short()
+        .chain(searches::short())
+        .chain(rings::short());
+    let different = check_started_later::<T>(all, |n| (0..=n).collect());
+    assert!(different > 100_000, "only {different} counts differed");
+}
+
+pub fn longer_rings_started_at_every_byte<T: SearchingCall<Answer = Answer>>() {
+    let all = searches::longer()
+        .step_by(8)
+        .chain(searches::about_as_long())
+        .chain(rings::longer());
+    let different = check_started_later::<T>(all, |n| (0..=n).collect());
+    assert!(different > 1_000, "only {different} counts differed");
+}
+
+/// The largest rings, started at their second byte, at their last and at some between.
+pub fn largest_rings_started_elsewhere<T: SearchingCall<Answer = Answer>>() {
+    let all = searches::largest().step_by(3).chain(rings::largest());
+    let different = check_started_later::<T>(all, |n| vec![1, 2, 127, n / 2, n - 128, n - 1]);
+    assert!(different > 10, "only {different} counts differed");
 }
