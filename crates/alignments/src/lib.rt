@@ -65,7 +65,8 @@ pub fn agreeing(pattern: &[u8], text: &[u8], order: &[i16], p: usize, here: Laid
     i
 }
 
-// The same of any alignment, also of one that wraps around the text's end.
+// The same of any alignment, also of one that wraps around the text's end. It serves the walk along
+// the alignments; the search past the text's end has the same loop written out.
 pub fn agreeing_around(pattern: &[u8], text: &[u8], order: &[i16], p: usize, here: Laid) -> usize
     requires { ⌜ Row-ready (now pattern) (now text) (now order) p ⌝ }
     requires { ⌜ Laid-inside (now pattern) (now text) here ⌝ }

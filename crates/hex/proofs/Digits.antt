@@ -1,8 +1,8 @@
--- One digit: in which ranges a byte is one, and that a value's digit is read as the value and a digit's value written as the digit.
--- Each range decides the tests of `is-digit`; the laws of values are computed tests.
+-- One digit: in which ranges a byte is one, its value there, and that digits and values go back and
+-- forth. Each range decides the tests of `is-digit`; the laws of values are computed tests.
 use mathlib.Core.Bool.{Bool, true, false, _||_, not, true≢false}
 use mathlib.Core.Path.{_≡_, refl, sym, _∙_}
-use Prim.Native.Nat.{ℕ, _≤_, _<_}
+use Prim.Native.Nat.{ℕ, _-_, _≤_, _<_}
 use native.Mathlib.Omega.{arith}
 use borrow.Author.Tests.{le-leb, lt-leb, ltb-true, eqb-true}
 use lib.Dec.{ltb, eqb}
@@ -28,6 +28,14 @@ decimal b l h = simp (le-leb 0x30 b l, le-leb b 0x39 h)
 pub capital : (b : ℕ) → 0x41 ≤ b → b ≤ 0x46 → is-digit b ≡ true
 unfolding is-digit
 capital b l h = simp (le-leb 0x30 b (omega arith), lt-leb b 0x39 (omega arith), le-leb 0x41 b l, le-leb b 0x46 h)
+
+pub decimal-value : (b : ℕ) → b ≤ 0x39 → digit-value b ≡ b - 0x30
+unfolding digit-value
+decimal-value b h = simp (le-leb b 0x39 h)
+
+pub capital-value : (b : ℕ) → 0x39 < b → digit-value b ≡ b - 0x37
+unfolding digit-value
+capital-value b l = simp (lt-leb b 0x39 l)
 
 -- the digit of a value below 16 is a digit, and is read as that value
 pub digit-is-digit : (v : ℕ) → v < 16 → is-digit (digit v) ≡ true

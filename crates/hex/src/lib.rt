@@ -12,7 +12,8 @@ pub enum Parsed {
     Refused,
 }
 
-// The value of a digit. It is public for the crate that reads lines: once they are checked, their digits need no test for refusal 2 again.
+// The value of a byte that is known to be a digit. It is public for the crate that reads lines:
+// once they are checked, their digits need no test for refusal 2 again.
 pub fn value_of(digit: u8) -> u8
     requires { ⌜ 0x30 ≤ digit ⌝ }
     ensures { λ r. ⌜ r ≡ digit-value digit ⌝ }
@@ -24,12 +25,13 @@ pub fn value_of(digit: u8) -> u8
     }
 }
 
-// A byte read as a digit: its value, or refusal 2.
+// A byte read as a digit: each range of digits has its value, and any other byte is refusal 2.
 pub fn digit_value(byte: u8) -> Parsed
     ensures { λ r. ⌜ Parsed-outcome (is-digit byte) (digit-value byte) r ⌝ }
 {
     match byte {
-        0x30..=0x39 | 0x41..=0x46 => Parsed::Value(value_of(byte)),
+        0x30..=0x39 => Parsed::Value(byte - 0x30),
+        0x41..=0x46 => Parsed::Value(byte - 0x37),
         _ => Parsed::Refused,
     }
 }

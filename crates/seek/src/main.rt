@@ -3,6 +3,7 @@ use libc::STDERR_FILENO;
 use libc::STDIN_FILENO;
 use libc::STDOUT_FILENO;
 use printer::LONGEST_REPORT;
+ghost use mathlib.Core.Bool.{false};
 ghost use mathlib.Core.Path.{_≡_};
 ghost use mathlib.Core.List.{List};
 ghost use Prim.Native.Nat.{ℕ, _≤_};
@@ -22,9 +23,13 @@ struct Input {
     failed: bool,
 }
 
-// Reads standard input to its end, or until the buffer is full.
+// Reads standard input to its end, or until the buffer is full. Proved: `bytes` counts entries of
+// the buffer, and a full buffer is no failure. That these entries are the input's first bytes in
+// their order, and that `failed` tells of a read that failed, no contract says, since `read`
+// promises a count alone: the listing and the tests hold it.
 fn read_input(buf: &mut [u8]) -> Input
     ensures { λ r. ⌜ Counts (r .bytes) (now (buf .exit)) ⌝ }
+    ensures { λ r. ⌜ (r .bytes ≡ length (now (buf .exit)) → r .failed ≡ false) ⌝ }
 {
     let mut bytes = 0;
     while bytes < buf.len() {
@@ -57,6 +62,9 @@ fn report_of(read: &[u8], bytes: usize, out: &mut [u8]) -> usize
     report::seek_report(&read[..bytes], out).bytes as usize
 }
 
+// Prints the report of standard input. Proved: it is safe and ends, and `report_of` writes the
+// report of every file that the buffer was read from (`Read-from`). That standard input is such a
+// file, and that the report is what goes out, no contract says: the listing and the tests hold it.
 fn main() {
     let mut read: [u8; INPUT_ROOM] = [0; INPUT_ROOM];
     let input = read_input(&mut read);

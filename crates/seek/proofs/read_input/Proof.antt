@@ -1,6 +1,6 @@
--- `seek::read_input` meets its contract. The loop's invariant: the count lies within the buffer, whose length stays.
--- The measure is what is left of the buffer. Assumes nothing.
-use mathlib.Core.Path.{_≡_}
+-- `seek::read_input` meets its contract: it reads only where the buffer has room. The loop keeps
+-- the count within the buffer, whose length stays; its measure is the room left. Assumes nothing.
+use mathlib.Core.Path.{_≡_, refl}
 use Prim.Native.Nat.{_-_, _≤_}
 use native.Mathlib.Omega.{arith}
 use lib.ListN.{length}
@@ -30,9 +30,9 @@ read-input-spec =
     (λ c. omega arith)
     (λ c κs. omega arith)
     (λ c. omega arith)
-    (λ c. counts _ _ (omega arith))
+    (λ c. (counts _ _ (omega arith), λ full. absurd (omega arith)))
     (λ c. omega arith)
     (λ c. omega arith)
     (λ c. omega arith)
     (λ c. omega arith)
-    (λ c. counts _ _ (omega arith)))
+    (λ c. (counts _ _ (omega arith), λ full. refl)))

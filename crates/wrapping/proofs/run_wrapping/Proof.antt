@@ -1,129 +1,143 @@
--- `wrapping::run_wrapping` meets its contract. The loop keeps `Moved`, and each turn is a law of one alignment. The measure is what is left of the
--- text. Assumes nothing.
+-- `wrapping::run_wrapping` meets its contract. The loop over the alignments keeps `Moved`, that over
+-- the comparisons `Along`, and that the alignment is shown once one has been made. The measures are
+-- what is left of the text and of the row. Assumes nothing.
 use mathlib.Core.Bool.{Bool}
 use mathlib.Core.List.{List}
 use mathlib.Core.Logic.{⊎-elim}
-use mathlib.Core.Path.{_≡_}
-use Prim.Native.Nat.{ℕ, _*_, _-_, _≤_, _<_}
+use mathlib.Core.Path.{_≡_, sym, _∙_}
+use Prim.Native.Nat.{ℕ, _-_, _≤_, _<_}
 use native.Mathlib.Omega.{arith}
-use lib.ListN.{length}
-use Rattle.tables.specs.Tables.{period}
-use Rattle.steps.proofs.Fuel.{shift-positive}
-use Rattle.steps.proofs.Rows.{row-few}
-use Rattle.steps.proofs.Steps.{agreeing-at-most}
+use lib.ListN.{length, getD}
+use Rattle.tables.proofs.LaterShift.{Δ2-end}
+use Rattle.tables.proofs.Stored.{stored-Δ2-length, stored-Δ2-entry}
+use Rattle.tables.specs.Tables.{period, stored-Δ2}
+use Rattle.steps.proofs.Rows.{row-some, row-few, row-below}
+use Rattle.steps.proofs.Text.{span-reaches}
 use Rattle.steps.specs.Steps.{row}
-use Rattle.steps.specs.Text.{shown}
-use Rattle.progress.proofs.Moved.{moved-none, moved-length, moved-on, moved-listed}
+use Rattle.progress.proofs.Moved.{moved-none, moved-length, moved-then}
 use Rattle.progress.proofs.Shifts.{Entry-at}
-use Rattle.progress.specs.Progress.{Moved}
+use Rattle.progress.proofs.Stored.{begins-room, begins-entry}
+use Rattle.progress.specs.Progress.{Compared-so, Moved}
 use Rattle.progress.specs.Ready.{Run-ready}
+use Rattle.alignments.proofs.Along.{Along, along-none, along-more, along-stop, along-all}
 use Rattle.alignments.proofs.Shifts.{pattern-taken}
-use Rattle.alignments.specs.Laid.{Laid-inside}
-use Rattle.wrapping.proofs.Turns.{period-entry, laid-at, laid-inside, turn-agreeing, turn-differing}
 use Rattle.wrapping.proofs.run_wrapping.Statement.{statement}
 use Rattle.wrapping.proofs.run_wrapping.Tie as tie
 
 abbrev Inv-loop : tie.InvT-loop
-Inv-loop pattern text order delta2 delta1 delta3 found₀ p here₀ occurrences₀ comparisons₀ found here occurrences comparisons =
-    Moved pattern text (laid-at here₀ occurrences₀ comparisons₀) (laid-at here occurrences comparisons) found₀ found
+Inv-loop pattern text order delta2 delta1 delta3 found p run b repeat count i₀ i =
+    Along pattern text b (row pattern repeat) i × (1 ≤ i → b < length text)
 
 abbrev μ-loop : tie.MeasureT-loop
-μ-loop pattern text order delta2 delta1 delta3 found₀ p here₀ occurrences₀ comparisons₀ found here occurrences comparisons =
-    length text - here .position
+μ-loop pattern text order delta2 delta1 delta3 found p run b repeat count i₀ i = length (row pattern repeat) - i
 
--- the function's entry from where the period is read and from where a turn begins, and what is ready
-abbrev entry : tie.After-slice-known Inv-loop μ-loop → tie.Start Inv-loop μ-loop
+abbrev Inv-alignments : tie.InvT-alignments
+Inv-alignments pattern text order delta2 delta1 delta3 found₀ p run₀ found run = Moved pattern text run₀ run found₀ found
+
+abbrev μ-alignments : tie.MeasureT-alignments
+μ-alignments pattern text order delta2 delta1 delta3 found₀ p run₀ found run = length text - run .position
+
+-- the places of the code: where the period is read; where an alignment is laid; where one that is
+-- shown is compared
+abbrev Reading : Type 0
+Reading = tie.After-slice-known Inv-loop μ-loop Inv-alignments μ-alignments
+
+abbrev Alignment : Type 0
+Alignment = tie.At-alignments Inv-loop μ-loop Inv-alignments μ-alignments
+
+abbrev Turn : Type 0
+Turn = tie.Else2 Inv-loop μ-loop Inv-alignments μ-alignments
+
+-- the function's entry from the first two, and the alignment of a turn
+abbrev entry : Reading → tie.Start Inv-loop μ-loop Inv-alignments μ-alignments
 entry c = c .before .before .before .before .before .before
 
-abbrev start : tie.At-loop Inv-loop μ-loop → tie.Start Inv-loop μ-loop
+abbrev start : Alignment → tie.Start Inv-loop μ-loop Inv-alignments μ-alignments
 start c = entry (c .before .before)
 
+abbrev alignment : tie.At-loop Inv-loop μ-loop Inv-alignments μ-alignments → Alignment
+alignment c = c .before .before
+
+-- what is ready
 ready :
-    (c : tie.At-loop Inv-loop μ-loop) → let a = start c .args in
+    (c : Alignment) → let a = start c .args in
     Run-ready (a .pattern .now) (a .text .now) (a .order .now) (a .delta2 .now) (a .delta1 .now) (a .delta3 .now) (a .found .now)
 ready c = start c .pre .0
 
--- the period as it is read
-period-read : (c : tie.After-slice-known Inv-loop μ-loop) → let a = entry c .args in Entry-at (a .delta2 .now) (length (a .pattern .now)) (period (a .pattern .now))
-period-read c = let ready = entry c .pre .0 .shifts in period-entry _ (ready .taken .some) (ready .delta2-ready)
-
--- the alignment of a turn is inside what is shown
-inside : (c : tie.Then1 Inv-loop μ-loop) → let d = c .before .before in Laid-inside (start d .args .pattern .now) (start d .args .text .now) (d .loop .here)
-inside c = let d = c .before .before in laid-inside (ready d .shifts .taken) (d .loop .inv .stretch .standing) (c .if1 .taken)
-
--- where its comparisons have been made: the turn, and how many agreed
-abbrev turn : tie.After-row-length Inv-loop μ-loop → tie.At-loop Inv-loop μ-loop
-turn c = c .before .before .before .before
+-- the period is Δ2's entry for an occurrence
+period-read : (c : Reading) → let a = entry c .args in Entry-at (a .delta2 .now) (length (a .pattern .now)) (period (a .pattern .now))
+period-read c =
+    let (w, delta2) : List ℕ × List ℕ = (entry c .args .pattern .now, entry c .args .delta2 .now) in
+    let ready = entry c .pre .0 .shifts in
+    let whole = stored-Δ2-length w in
+    record {
+      inside = omega (arith, begins-room (stored-Δ2 w) delta2 (ready .delta2-ready));
+      value-there =
+          begins-entry (stored-Δ2 w) delta2 (ready .delta2-ready) (length w) 0 (omega arith)
+          ∙ stored-Δ2-entry w (length w) (ready .taken .some) (omega arith)
+          ∙ Δ2-end w (ready .taken .some);
+    }
 
 -- the numbers are small
 small :
-    (c : tie.After-row-length Inv-loop μ-loop) → let d = turn c in let a = start d .args in let v = d .loop in
-    (v .here .position < length (a .text .now))
-    × (v .occurrences ≤ v .here .position)
-    × (v .comparisons ≤ 128 * v .here .position)
-    × (c .before .agreeing-around .result ≤ 128)
-    × (length (a .text .now) ≤ 16384)
-    × (length (v .found) ≡ length (a .found .now))
-    × (length (a .text .now) ≤ length (a .found .now))
-small c =
-    let d = turn c in
-    let a = start d .args in
+    (c : Turn) → let d = alignment (c .before .before) in let a = start d .args in
+    (d .alignments .run .position < length (a .text .now)) × (length (a .text .now) ≤ 16384) × (length (a .pattern .now) ≤ 128)
+small c = let taken = ready (alignment (c .before .before)) .shifts .taken in omega (arith, c .if2 .left, taken .text, taken .few, taken .some)
+
+-- what is compared is in the row and in the pattern
+module _ (c : tie.Else1 Inv-loop μ-loop Inv-alignments μ-alignments) where
+  abbrev w : List ℕ
+  w = start (alignment (c .before)) .args .pattern .now
+
+  abbrev repeat : Bool
+  repeat = alignment (c .before) .alignments .run .repeat
+
+  abbrev i : ℕ
+  i = c .before .loop .i
+
+  in-row : i < length (row w repeat)
+  in-row = let t = c .before in omega (arith, c .if1 .left, t .loop .inv .0 .within, t .before .row-length .ensures)
+
+  in-pattern : {at : ℕ} → at ≡ getD (row w repeat) i 0 → (at < length w) × (i < length w)
+  in-pattern e =
+      let some = ready (alignment (c .before)) .shifts .taken .some in
+      omega (arith, e, row-below w repeat some i in-row, row-few w repeat some, in-row)
+
+-- however the comparisons end, the alignment is shown: the row is not empty, so that one was made
+is-shown :
+    (c : tie.Joined1 Inv-loop μ-loop Inv-alignments μ-alignments) → let d = alignment (c .before) in
+    d .alignments .run .position < length (start d .args .text .now)
+is-shown c =
+    let t = c .before in
+    let d = alignment t in
+    let some = row-some (start d .args .pattern .now) (d .alignments .run .repeat) (ready d .shifts .taken .some) in
+    ⊎-elim (λ x. t .loop .inv .1 (omega (arith, x .0 .taken, t .before .row-length .ensures, some)))
+    (λ x. small (record { before = record { before = t; if1 = x .0 }; if2 = x .1 }) .0)
+    (c .if1 .came)
+
+-- and so many of them agree
+ended :
+    (c : tie.Joined1 Inv-loop μ-loop Inv-alignments μ-alignments) → let d = alignment (c .before) in let a = start d .args in
+    Compared-so (a .pattern .now) (a .text .now) (d .alignments .run .position) (d .alignments .run .repeat) (c .if1 .agreed)
+ended c =
+    let t = c .before in
+    let a = start (alignment t) .args in
+    let known = t .loop .inv .0 in
+    record {
+      inside = span-reaches (a .pattern .now) (a .text .now) (ready (alignment t) .shifts .taken .some) _ (is-shown c);
+      count =
+          ⊎-elim (λ x. x .1 ∙ along-all _ _ _ _ known (x .0 .taken ∙ t .before .row-length .ensures))
+          (λ x.
+          x .6
+          ∙ along-stop _ _ _ _ known (in-row (record { before = t; if1 = x .0 })) (x .2 .ensures) (λ same. x .5 .taken (same ∙ sym (x .4 .ensures))))
+          (c .if1 .came);
+    }
+
+move-around-requires : tie.Need-move-around-requires Inv-loop μ-loop Inv-alignments μ-alignments
+move-around-requires c κs =
+    let d = alignment (c .before .before) in
     let r = ready d .shifts in
-    let stands = d .loop .inv .stretch .standing in
-    let (w, b, repeat) : List ℕ × ℕ × Bool = (a .pattern .now, d .loop .here .position, d .loop .here .repeat) in
-    let few = agreeing-at-most (shown (a .text .now)) w b (row w repeat) in (
-      c .before .before .if1 .taken,
-      stands .fewer,
-      stands .few,
-      omega (arith, c .before .agreeing-around .ensures .count, row-few w repeat (r .taken .some), r .taken .few),
-      r .taken .text,
-      moved-length (r .taken) (r .room) (d .loop .inv),
-      r .room,
-    )
-
--- the steps go on from it, whether all agreed or not
-moved :
-    (c : tie.After-laid-after Inv-loop μ-loop) → let j = c .before in let d = turn (j .before) in let a = start d .args in let v = d .loop in
-    Moved (a .pattern .now) (a .text .now) (a .begin) (laid-at (c .laid-after .result) (j .if2 .occurrences) (j .if2 .comparisons)) (a .found .now)
-    (j .if2 .found)
-moved c =
-    let j = c .before in
-    let r = ready (turn (j .before)) .shifts in
-    let so-far = turn (j .before) .loop .inv in
-    let ended = j .before .before .agreeing-around .ensures in
-    let count = j .before .row-length .ensures in
-    ⊎-elim
-    (λ x.
-    rw (x .2, x .3, x .4)
-    (moved-listed (r .taken) (r .room) so-far (omega (arith, small (j .before)))
-    (turn-agreeing (r .taken) (so-far .stretch .standing) ended count (c .laid-after .ensures) (x .0 .taken))))
-    (λ x.
-    rw (x .1, x .2, x .3)
-    (moved-on (r .taken) (r .room) so-far
-    (turn-differing (r .taken) (so-far .stretch .standing) ended count (c .laid-after .ensures) (x .0 .left))))
-    (j .if2 .came)
-
--- it comes further on
-further :
-    (c : tie.After-laid-after Inv-loop μ-loop) → let d = turn (c .before .before) in
-    (d .loop .here .position < c .laid-after .result .position) × (d .loop .here .position < length (start d .args .text .now))
-further c =
-    let d = turn (c .before .before) in
-    let x = d .loop .here in
-    let a = start d .args in
-    let positive = shift-positive (shown (a .text .now)) (a .pattern .now) (x .position) (x .shift) (x .repeat) (ready d .shifts .taken .some) in
-    (rw (c .laid-after .ensures) (omega arith), small (c .before .before) .0)
-
-agreeing-around-requires : tie.Need-agreeing-around-requires Inv-loop μ-loop
-agreeing-around-requires c κs =
-    let d = c .before .before in
-    let r = ready d in
-    (record { taken = r .shifts .taken; order-ready = r .order-ready; period-is = period-read (d .before .before) .value-there }, inside c)
-
-laid-after-requires : tie.Need-laid-after-requires Inv-loop μ-loop
-laid-after-requires c κs =
-    let d = turn (c .before) in
-    let r = ready d .shifts in (
+    let so-far = d .alignments .inv in (
       record {
         taken = r .taken;
         delta2-ready = r .delta2-ready;
@@ -131,13 +145,8 @@ laid-after-requires c κs =
         delta3-ready = r .delta3-ready;
         period-is = period-read (d .before .before) .value-there;
       },
-      (inside (c .before .before .before), c .before .before .agreeing-around .ensures),
+      (omega (arith, r .room, moved-length (r .taken) (r .room) so-far), (so-far .stretch .standing, ended (c .before))),
     )
-
-loop-holds : tie.Need-loop-holds Inv-loop μ-loop
-loop-holds c =
-    let e = entry (c .before) in
-    moved-none (e .pre .0 .shifts .taken) (e .args .begin) (e .args .found .now) (e .pre .1)
 
 pub run-wrapping-spec : {M : Type 1} → statement M
 run-wrapping-spec =
@@ -145,21 +154,32 @@ run-wrapping-spec =
     (tie.spec
     Inv-loop
     μ-loop
+    Inv-alignments
+    μ-alignments
     (λ c. omega (arith, period-read c .inside))
     (λ c. period-read (c .before) .inside)
     (λ c. omega (arith, c .shared-slice-known6 .given (length (entry (c .before) .args .pattern .now))))
-    loop-holds
-    agreeing-around-requires
-    (λ c κs. let d = c .before .before .before in (pattern-taken (ready d .shifts .taken), period-read (d .before .before) .value-there))
-    (λ c. omega (arith, small (c .before .before)))
-    (λ c. omega (arith, small (c .before .before)))
-    (λ c. omega (arith, small (c .before .before)))
-    (λ c. omega (arith, small (c .before .before)))
-    (λ c. omega (arith, small (c .before .before)))
-    (λ c. omega (arith, small (c .before)))
-    (λ c. omega (arith, small (c .before)))
-    laid-after-requires
-    (λ c. omega (arith, further c))
-    moved
-    (λ c. let d = c .before .before in moved-length (ready d .shifts .taken) (ready d .shifts .room) (d .loop .inv))
-    (λ c. (c .if1 .left, c .before .before .loop .inv)))
+    (λ c. let e = entry (c .before) in moved-none (e .pre .0 .shifts .taken) (e .args .begin) (e .args .found .now) (e .pre .1))
+    (λ c κs. (pattern-taken (ready c .shifts .taken), period-read (c .before .before) .value-there))
+    (λ c. (along-none _ _ _ _, λ some. absurd (omega arith)))
+    (λ c κs. let r = ready (alignment (c .before .before)) in (pattern-taken (r .shifts .taken), (r .order-ready, in-row (c .before))))
+    (λ c. let e = c .before in in-pattern (e .before .before) (e .row-entry .ensures) .0)
+    (λ c. let e = c .before in omega (arith, in-pattern (e .before .before) (e .row-entry .ensures), small (e .before)))
+    (λ c κs. omega (arith, small (c .before .before)))
+    (λ c. let e = c .before .before .before in omega (arith, in-pattern (e .before .before) (e .row-entry .ensures), small (e .before)))
+    (λ c. omega (arith, in-row (c .before .before .before .before .before)))
+    (λ c.
+    let e = c .before .before .before in (
+      along-more _ _ _ _ (e .before .before .before .loop .inv .0) (in-row (e .before .before)) (e .row-entry .ensures)
+          (c .if3 .left ∙ c .before .byte-at .ensures),
+      λ some. small (e .before) .0,
+    ))
+    move-around-requires
+    (λ c. let m = c .before .before in omega (arith, m .move-around .ensures .0, is-shown (m .before .before)))
+    (λ c.
+    let m = c .before .before in
+    let d = alignment (m .before .before .before) in
+    let r = ready d .shifts in
+    moved-then (r .taken) (r .room) (d .alignments .inv) (m .move-around .ensures .1))
+    (λ c. let d = c .before .before .before .before in moved-length (ready d .shifts .taken) (ready d .shifts .room) (d .alignments .inv))
+    (λ c. (c .if2 .taken, c .before .before .before .before .alignments .inv)))
