@@ -1,23 +1,15 @@
--- A call's status is 0 just where none of its conditions holds; what is left of it past 4, 5 and 6; and what it is that none of these holds.
+-- What a status says (`refusals-right`), what is left of it past 4, 5 and 6, and what these say.
 -- By induction on the list of conditions, whose numbers are none of them 0.
 use mathlib.Core.Bool.{Bool, true, false, _||_, cond, true≢false}
 use mathlib.Core.List.{List, [], _∷_, _++_, append-nil}
+use mathlib.Core.Logic.{_≢_}
 use mathlib.Core.Path.{_≡_, refl, sym, _∙_}
 use Prim.Native.Nat.{ℕ, zero, suc, _≤_, _<_}
 use native.Mathlib.Omega.{arith}
 use borrow.Author.Tests.{ltb-false, leb-false, eqb-false, le-ltb, lt-leb, ne-eqb}
 use lib.Dec.{ltb, eqb}
-use Rattle.answers.specs.Refusals.{Refusal, first-of, longest-pattern, longest-text, pattern-refusal, hold-refusal, text-refusal, job-refusals}
-
--- none of the conditions holds
-abbrev pub None-holds : List Refusal → Type 0
-None-holds [] = Unit {0}
-None-holds (r ∷ rs) = (r .holds ≡ false) × None-holds rs
-
--- none of the numbers is 0
-abbrev pub Numbered : List Refusal → Type 0
-Numbered [] = Unit {0}
-Numbered (r ∷ rs) = (0 < r .number) × Numbered rs
+use Rattle.answers.specs.Promises.{None-holds, Numbered, First-holds, Refusals-right}
+use Rattle.answers.specs.Refusals.{Refusal, first-of, longest-pattern, longest-text, pattern-refusal, hold-refusal, text-refusal, job-refusals, Within-limits}
 
 not-first : (holds : Bool) (number later : ℕ) → 0 < number → cond holds number later ≡ 0 → (holds ≡ false) × (later ≡ 0)
 not-first true n l h e = absurd (omega arith)
@@ -39,6 +31,33 @@ first-past (r ∷ rs) ss h = rw (h .0) (first-past rs ss (h .1))
 pub none-done : (rs : List Refusal) → None-holds rs → first-of rs ≡ 0
 unfolding first-of
 none-done rs h = rw append-nil at (first-past rs [] h)
+
+-- a status other than 0 is the number of the first condition that holds
+refused-first : (rs : List Refusal) (number : ℕ) → number ≢ 0 → first-of rs ≡ number → First-holds rs number
+unfolding first-of
+refused-first [] n d e = absurd (d (sym e))
+refused-first (r ∷ rs) n d e = go (r .holds) refl e (refused-first rs n d)
+  where
+    go : (z : Bool) → r .holds ≡ z → cond z (r .number) (first-of rs) ≡ n → (first-of rs ≡ n → First-holds rs n) → First-holds (r ∷ rs) n
+    go true h e later = record { before = []; first = r; after = rs; split = refl; none-before = tt; holds = h; by-number = e }
+    go false h e later =
+        let f = later e in
+        record {
+          before = r ∷ f .before;
+          first = f .first;
+          after = f .after;
+          split = rw (f .split);
+          none-before = (h, f .none-before);
+          holds = f .holds;
+          by-number = f .by-number;
+        }
+
+pub refusals-right : Refusals-right
+unfolding Refusals-right first-of
+refusals-right rs = record {
+  done = λ numbered. (done-none rs numbered, none-done rs);
+  refused = λ n d. (refused-first rs n d, λ f. rw (f .split, first-past (f .before) _ (f .none-before), f .holds) (f .by-number));
+}
 
 -- two lists of conditions past the same ones give the same status, where they do so when none of those holds
 same-test : (holds : Bool) (number later later' : ℕ) → (holds ≡ false → later ≡ later') → cond holds number later ≡ cond holds number later'
@@ -83,12 +102,6 @@ pattern-fits m l h = rw (ne-eqb m 0 (omega arith)) (le-ltb longest-pattern m h)
 pub text-within : (n : ℕ) → first-of (text-refusal n ∷ []) ≡ 0 → n ≤ longest-text
 text-within n e = ltb-false longest-text n (done-none (text-refusal n ∷ []) (omega arith) e .0)
 
--- none of 4, 5 and 6 holds
-pub record Within-limits (m q n : ℕ) : Type 0 where
-  pub hold-offset : q < m
-  pub pattern : m ≤ longest-pattern
-  pub text : n ≤ longest-text
-
 module _ (m q n : ℕ) where
   -- of a list that begins with the three, with whatever its other conditions say
   abbrev Job-none : Type 0 → Type 0
@@ -114,13 +127,13 @@ module _ (m q n : ℕ) where
     unfolding job-refusals
     job-past e rs = first-passed (job-refusals m q n) rs (omega arith) tested e
 
--- a call that takes no hold offset gives 0, by which no pattern that is taken is refused
+-- a call that takes no hold offset passes 0, by which no pattern that is taken is refused
 pub no-hold : (m n : ℕ) (rs : List Refusal) → first-of (pattern-refusal m ∷ text-refusal n ∷ rs) ≡ first-of (job-refusals m 0 n ++ rs)
 unfolding first-of job-refusals
 no-hold zero n rs = refl
 no-hold (suc m) n rs = rw (lt-leb (suc m) 0 (omega arith))
 
--- and one that takes no text either gives the length 0, which is never refused
+-- and one that takes no text either passes the length 0, which is never refused
 pub no-text : (m : ℕ) (rs : List Refusal) → first-of (pattern-refusal m ∷ rs) ≡ first-of (job-refusals m 0 0 ++ rs)
 unfolding first-of
 no-text m rs = no-hold m 0 rs

@@ -1,4 +1,5 @@
 pub mod Refusals
+pub mod Promises
 pub mod Answers
 pub mod Buffers
 pub mod Bytes

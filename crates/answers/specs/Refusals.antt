@@ -2,7 +2,7 @@
 -- These are definitions.
 use mathlib.Core.Bool.{Bool, _||_, cond}
 use mathlib.Core.List.{List, [], _∷_, _++_}
-use Prim.Native.Nat.{ℕ}
+use Prim.Native.Nat.{ℕ, _≤_, _<_}
 use lib.Dec.{ltb, leb, eqb}
 
 -- a condition under which a call is refused, and the number it is refused by
@@ -43,6 +43,12 @@ rule-refusals m q = pattern-refusal m ∷ hold-refusal m q ∷ []
 
 unfoldable pub job-refusals : (m q n : ℕ) → List Refusal
 job-refusals m q n = rule-refusals m q ++ (text-refusal n ∷ [])
+
+-- none of 4, 5 and 6 holds: q is below m, m is at most 128, and n at most 16,384
+pub record Within-limits (m q n : ℕ) : Type 0 where
+  pub hold-offset : q < m
+  pub pattern : m ≤ longest-pattern
+  pub text : n ≤ longest-text
 
 -- 7: a caller's buffer (lent buffer) has fewer entries than are needed
 abbrev pub buffer-refusal : (entries needed : ℕ) → Refusal

@@ -91,7 +91,7 @@ pub fn counted(ones: u32) -> Answer
     }
 }
 
-// 4 and 5 in their order, or 0. A call that takes no hold offset (hold place) gives 0.
+// 4 and 5 in their order, or 0. A call that takes no hold offset (hold place) passes 0.
 pub fn rule_status(m: usize, hold_offset: usize) -> u32
     ensures { λ r. ⌜ r ≡ first-of (rule-refusals m «hold_offset») ⌝ }
 {
@@ -114,7 +114,7 @@ pub fn text_status(n: usize) -> u32
     0
 }
 
-// 4, 5 and 6 in their order, or 0. A call that takes no text (chain) gives 0 for n.
+// 4, 5 and 6 in their order, or 0. A call that takes no text (chain) passes 0 for n.
 pub fn job_status(m: usize, hold_offset: usize, n: usize) -> u32
     ensures { λ r. ⌜ r ≡ first-of (job-refusals m «hold_offset» n) ⌝ }
 {

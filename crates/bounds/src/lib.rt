@@ -3,21 +3,22 @@ ghost use mathlib.Core.Path.{_≡_};
 ghost use Prim.Native.Nat.{_≤_};
 ghost use Rattle.steps.specs.Bound.{bound};
 
-// The most comparisons (looks) that demand 3 allows a search for a pattern (motif) of m bytes and this period, in a text (chain) of which n positions are
-// shown, with so many occurrences (finds). It is public for the crate that searches.
-pub fn comparison_bound(m: u32, n: u32, occurrences: u32, period: u32) -> u32
+// The most comparisons (looks) that demand 3 allows a search for a pattern (motif) of m bytes and
+// this period, with so many occurrences (finds). The span N is how many positions of the text
+// (chain) are shown. It is public for the crate that searches.
+pub fn comparison_bound(m: u32, span: u32, occurrences: u32, period: u32) -> u32
     requires { ⌜ m ≤ 128 ⌝ }
-    requires { ⌜ n ≤ 65535 ⌝ }
-    requires { ⌜ occurrences ≤ n ⌝ }
+    requires { ⌜ span ≤ 65535 ⌝ }
+    requires { ⌜ occurrences ≤ span ⌝ }
     requires { ⌜ period ≤ m ⌝ }
-    ensures { λ r. ⌜ r ≡ bound m n occurrences period ⌝ }
+    ensures { λ r. ⌜ r ≡ bound m span occurrences period ⌝ }
 {
-    if n < m {
+    if span < m {
         return 0;
     }
     if 3 * period <= m {
-        return 2 * n - m;
+        return 2 * span - m;
     }
     let beyond = if 2 * period < m { m - 2 * period } else { 0 };
-    2 * n - m + occurrences * beyond
+    2 * span - m + occurrences * beyond
 }

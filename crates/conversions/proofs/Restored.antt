@@ -3,7 +3,7 @@
 use mathlib.Core.Bool.{Bool, true, false, cond, and-eq-true-iff}
 use mathlib.Core.List.{List}
 use mathlib.Core.Logic.{⊎-elim}
-use mathlib.Core.Path.{_≡_, refl, sym, _∙_}
+use mathlib.Core.Path.{_≡_, refl, sym, _∙_, ap}
 use Prim.Native.Nat.{ℕ, _+_, _≤_, _<_}
 use native.Mathlib.Nat.{mod-eq-of-lt}
 use native.Mathlib.Omega.{arith}
@@ -25,7 +25,7 @@ use Rattle.ring.specs.Ring.{back, is-in}
 use Rattle.frames.proofs.Holds.{length-frames, holds-right, held-at}
 use Rattle.frames.specs.Frames.{hold, holds, frames}
 use Rattle.frames.specs.Promises.{Holds-right}
-use Rattle.conversions.specs.Promises.{Test-right, Converted-restored, Restored-converted, Restored-bytes}
+use Rattle.conversions.specs.Promises.{Test-right, Converted-restored, Conversion-injective, Restored-converted, Restored-bytes}
 use Rattle.conversions.specs.Restored.{restored-byte, restored, converts-again, is-conversion}
 use Rattle.conversions.specs.Walk.{All-frames}
 
@@ -118,6 +118,11 @@ converted-restored q w t b h =
     restored-entry q w (frames q w t) i
     ∙ rw (holds-right q i w t inside)
     (byte-again (byte t i) (bytes-entry t b i) (byte w q) (is-held q w t i) (byte-held q i w t h inside)))
+
+pub conversion-injective : Conversion-injective
+unfolding Conversion-injective Converted-restored
+conversion-injective q w t u b b' h e =
+    sym (converted-restored q w t b h) ∙ ap (restored q w) e ∙ converted-restored q w u b' h
 
 -- each frame of a conversion is converted to again
 module _ (q : ℕ) (w gs : List ℕ) (e : is-conversion q w gs ≡ true) where

@@ -1,17 +1,24 @@
 -- Demand 3 of whole calls: every search that is taken is exact (`Every-search-exact`), and two that meet the same bytes are alike (`Paired`).
 -- A call that answers status 0 has status 0, and then its outcome says what it answers and leaves; the steps do the rest.
-use mathlib.Core.List.{List}
-use mathlib.Core.Path.{_≡_, sym, _∙_, ap}
-use Prim.Native.Nat.{ℕ, _≤_}
+-- And the ones answered (`Ones-as-counted`), and what a status goes by (`Status-by-lengths`).
+use mathlib.Core.List.{List, [], _∷_}
+use mathlib.Core.Logic.{_↔_, ⊎-elim}
+use mathlib.Core.Path.{_≡_, refl, sym, _∙_, ap}
+use Prim.Native.Nat.{ℕ, _≤_, _<_}
 use native.Mathlib.Omega.{arith}
+use borrow.Author.Tests.{le-ltb, le-leb, lt-leb}
 use lib.ListN.{length, take}
-use Rattle.answers.proofs.Answered.{done-only}
+use Rattle.answers.proofs.Answered.{status-answered, done-only}
 use Rattle.answers.proofs.Bytes.{bytes-entry}
 use Rattle.answers.proofs.Fronts.{in-front-take}
+use Rattle.answers.proofs.Refusals.{none-done}
 use Rattle.answers.specs.Answers.{converted, if-done, answered}
 use Rattle.answers.specs.Buffers.{in-front}
 use Rattle.answers.specs.Bytes.{Bytes}
+use Rattle.answers.specs.Refusals.{text-refusal, job-refusals}
 use Rattle.answers.specs.declared.Answer.{Answer}
+use Rattle.tables.proofs.Cases.{le-or-lt}
+use Rattle.tables.specs.declared.TableLengths.{TableLengths}
 use Rattle.tables.specs.Tables.{period}
 use Rattle.steps.proofs.Bound.{few-comparisons}
 use Rattle.steps.proofs.Decide.{same-texts}
@@ -26,10 +33,10 @@ use Rattle.steps.specs.Text.{shown, span}
 use Rattle.ring.specs.Ring.{ascending}
 use Rattle.frames.proofs.Holds.{length-frames, holds-listed, holds-apart}
 use Rattle.converter.proofs.Taken.{conversion-taken}
-use Rattle.converter.specs.Convert.{convert-status-of, frames-left}
+use Rattle.converter.specs.Convert.{convert-status, convert-done, convert-status-of, frames-left}
 use Rattle.frames.specs.Frames.{holds, frames}
-use Rattle.ones.specs.Ones.{ones-of}
-use Rattle.converter.specs.Paired.{Call, Converts, Call-taken, Search, by-search, by-convert, found-by, holds-by, frames-held, Every-search-exact, Paired}
+use Rattle.ones.specs.Ones.{ones-of, count-status, count-answer}
+use Rattle.converter.specs.Paired.{Call, Converts, Call-taken, Any-search, by-search, by-convert, found-by, holds-by, frames-held, Every-search-exact, Ones-as-counted, Paired, Status-by-lengths}
 
 -- what a search that is taken gives
 record Worked (w t : List ℕ) (c : Call) : Type 0 where
@@ -58,7 +65,7 @@ module _ {w t : List ℕ} {c : Call} where
         occurrences-left = rw done at left;
       }
 
-  search-worked : {q : ℕ} → Search q w t c → Call-taken c → Worked w t c
+  search-worked : {q : ℕ} → Any-search q w t c → Call-taken c → Worked w t c
   search-worked (by-search h) e =
       let fit : _ → Search-fit w t (c .lent .tables) (c .lent .found) = search-fit in
       worked _ 0 (λ done. fit done .tables .taken .some) (h .answer) (h .occurrences-left) e
@@ -66,7 +73,7 @@ module _ {w t : List ℕ} {c : Call} where
       worked _ (ones-of t) (λ done. omega (arith, conversion-taken done .limits .hold-offset)) (h .answer) (h .occurrences-left) e
 
   -- a search that is taken is for a pattern that is not empty
-  pub search-nonempty : {q : ℕ} → Search q w t c → Call-taken c → 1 ≤ length w
+  pub search-nonempty : {q : ℕ} → Any-search q w t c → Call-taken c → 1 ≤ length w
   search-nonempty s e = search-worked s e .nonempty
 
   -- as many entries as are counted, in front of what the buffer held, are the occurrences
@@ -125,9 +132,39 @@ paired q w t u c d s e s' e' l same =
     record {
       same-comparisons = compared;
       same-occurrences = found;
+      same-number = y .occurrences-counted ∙ ap length listed ∙ sym (x .occurrences-counted);
       same-holds = rw (l, found);
-      same-frames = λ h b h' b'. y .frames-exact h' b' ∙ rw (l, found) (sym (x .frames-exact h b));
+      same-held = λ h b h' b'. y .frames-exact h' b' ∙ rw (l, found) (sym (x .frames-exact h b));
       same-count = rw (x .comparisons-counted, y .comparisons-counted, compared);
       same-period = y .period-answered ∙ sym (x .period-answered);
       same-bound = rw (x .bound-answered, y .bound-answered, listed, span-same w t u l);
     }
+
+pub ones-as-counted : Ones-as-counted
+unfolding Ones-as-counted count-answer count-status if-done answered
+ones-as-counted q w t c h e =
+    let few = conversion-taken (done-only _ _ (h .answer) e) .limits .text in
+    rw (none-done (text-refusal (length t) ∷ []) (le-ltb _ _ few, tt)) (ones-by h e)
+
+-- the status goes by whether the hold offset is in the pattern
+hold-same :
+    (m q q' n found frames : ℕ) (l : TableLengths) → (q' < m) ↔ (q < m) →
+    convert-status m q' n l found frames ≡ convert-status m q n l found frames
+unfolding convert-status job-refusals
+hold-same m q q' n found frames l same =
+    ⊎-elim
+    (λ h. rw (le-leb m q h, le-leb m q' (⊎-elim (λ h'. h') (λ h'. absurd (omega (arith, same .0 h'))) (le-or-lt m q'))))
+    (λ h. rw (lt-leb m q h, lt-leb m q' (same .1 h)))
+    (le-or-lt m q)
+
+pub status-by-lengths : Status-by-lengths
+unfolding Status-by-lengths
+status-by-lengths q q' w w' t t' c d pattern text same = (
+  λ h h'.
+      status-answered _ (search-done w' t') (h' .answer) refl
+      ∙ rw (same .tables, same .found, pattern, text) (sym (status-answered _ (search-done w t) (h .answer) refl)),
+  λ inside h h'.
+      status-answered _ (convert-done w' t') (h' .answer) refl
+      ∙ rw (same .tables, same .found, same .frames, text, pattern, hold-same (length w) q q' _ _ _ _ (rw pattern at inside))
+      (sym (status-answered _ (convert-done w t) (h .answer) refl)),
+)

@@ -7,8 +7,8 @@ use Prim.Native.Nat.{ℕ, _≤_}
 use native.Mathlib.Omega.{arith}
 use borrow.Author.Tests.{ltb-false, le-ltb}
 use lib.Dec.{ltb}
-use Rattle.answers.proofs.Refusals.{either, same-past, none-done, done-none, Within-limits, limits-hold, limits-none}
-use Rattle.answers.specs.Refusals.{first-of, pattern-refusal, text-refusal, job-refusals, buffer-refusal}
+use Rattle.answers.proofs.Refusals.{either, same-past, none-done, done-none, limits-hold, limits-none}
+use Rattle.answers.specs.Refusals.{first-of, pattern-refusal, text-refusal, job-refusals, Within-limits, buffer-refusal}
 use Rattle.tables.specs.Buffers.{tables-short, table-refusal, measured-status}
 use Rattle.tables.specs.declared.TableLengths.{TableLengths}
 use Rattle.matcher.specs.Search.{search-status}

@@ -1,12 +1,13 @@
 -- Demand 3 of whole calls (document 01, "The steps"): what every search that is taken answers and leaves, and what two of them share.
 -- A search is a call of `search` or of `convert`, whatever its contract allows. These are definitions.
 use mathlib.Core.List.{List}
+use mathlib.Core.Logic.{_↔_}
 use mathlib.Core.Path.{_≡_}
-use Prim.Native.Nat.{ℕ, _≤_}
+use Prim.Native.Nat.{ℕ, _≤_, _<_}
 use lib.ListN.{length, take}
 use Rattle.answers.specs.Bytes.{Bytes}
 use Rattle.answers.specs.declared.Answer.{Answer}
-use Rattle.tables.specs.Buffers.{Tables}
+use Rattle.tables.specs.Buffers.{Tables, lengths}
 use Rattle.tables.specs.Tables.{period}
 use Rattle.steps.specs.Bound.{search-bound}
 use Rattle.steps.specs.Occurrences.{occurrences}
@@ -17,6 +18,7 @@ use Rattle.steps.specs.Text.{shown}
 use Rattle.converter.specs.Convert.{Convert-outcome}
 use Rattle.frames.specs.Frames.{holds}
 use Rattle.frames.specs.Promises.{holds-of}
+use Rattle.ones.specs.Ones.{count-answer}
 use Rattle.ring.specs.Ring.{ascending}
 
 -- the caller's buffers (lent buffers); `search` is lent no frames, and says nothing of these
@@ -50,9 +52,9 @@ abbrev pub Call-taken : Call → Type 0
 Call-taken c = c .answer .status ≡ 0
 
 -- a search for w in t with the hold offset q: `search` takes no q, and so is a search with any
-pub data Search (q : ℕ) (w t : List ℕ) (c : Call) : Type 0 where
-  by-search : Searches w t c → Search q w t c
-  by-convert : Converts q w t c → Search q w t c
+pub data Any-search (q : ℕ) (w t : List ℕ) (c : Call) : Type 0 where
+  by-search : Searches w t c → Any-search q w t c
+  by-convert : Converts q w t c → Any-search q w t c
 
 -- the occurrences (finds) of a search: the h entries that it leaves for them
 unfoldable pub found-by : Call → List ℕ
@@ -81,15 +83,22 @@ pub record Exact (q : ℕ) (w t : List ℕ) (c : Call) : Type 0 where
 
 -- demand 3: this is so of every search that is taken
 unfoldable pub Every-search-exact : Type 0
-Every-search-exact = (q : ℕ) (w t : List ℕ) (c : Call) → Search q w t c → Call-taken c → Exact q w t c
+Every-search-exact = (q : ℕ) (w t : List ℕ) (c : Call) → Any-search q w t c → Call-taken c → Exact q w t c
 
--- what a search c in t and a search d in u share: the comparisons that the steps make, in their order, the occurrences, the holds
--- (of two conversions those among the frames too), and the count of comparisons, the period and the bound that are answered
+-- a conversion that is taken answers the ones (holes) that `count_ones` of the same text answers
+unfoldable pub Ones-as-counted : Type 0
+Ones-as-counted =
+    (q : ℕ) (w t : List ℕ) (c : Call) → Converts q w t c → Call-taken c → c .answer .ones ≡ count-answer t .ones
+
+-- what a search c in t and a search d in u share: the comparisons that the steps make, in their
+-- order; the occurrences, as many, and their holds, of two conversions also those among the frames;
+-- and the count of comparisons, the period and the bound that are answered
 pub record Shared (q : ℕ) (w t u : List ℕ) (c d : Call) : Type 0 where
   pub same-comparisons : comparisons w u ≡ comparisons w t
   pub same-occurrences : found-by d ≡ found-by c
+  pub same-number : d .answer .occurrences ≡ c .answer .occurrences
   pub same-holds : holds-by (length u) q d ≡ holds-by (length t) q c
-  pub same-frames : Converts q w t c → Bytes t → Converts q w u d → Bytes u → frames-held (length u) d ≡ frames-held (length t) c
+  pub same-held : Converts q w t c → Bytes t → Converts q w u d → Bytes u → frames-held (length u) d ≡ frames-held (length t) c
   pub same-count : d .answer .comparisons ≡ c .answer .comparisons
   pub same-period : d .answer .period ≡ c .answer .period
   pub same-bound : d .answer .bound ≡ c .answer .bound
@@ -98,6 +107,20 @@ pub record Shared (q : ℕ) (w t u : List ℕ) (c d : Call) : Type 0 where
 -- at every position where the first search compares
 unfoldable pub Paired : Type 0
 Paired =
-    (q : ℕ) (w t u : List ℕ) (c d : Call) → Search q w t c → Call-taken c → Search q w u d → Call-taken d →
+    (q : ℕ) (w t u : List ℕ) (c d : Call) → Any-search q w t c → Call-taken c → Any-search q w u d → Call-taken d →
     length u ≡ length t → Same-at (comparisons w t) (shown t) (shown u) →
     Shared q w t u c d
+
+-- a call d is lent buffers as long as those of a call c
+pub record Lent-as-long (c d : Call) : Type 0 where
+  pub tables : lengths (d .lent .tables) ≡ lengths (c .lent .tables)
+  pub found : length (d .lent .found) ≡ length (c .lent .found)
+  pub frames : length (d .lent .frames) ≡ length (c .lent .frames)
+
+-- the status goes by lengths: two calls of `search` with patterns, texts and buffers as long answer
+-- the same; so do two of `convert`, if both hold offsets are in their patterns, or neither is
+unfoldable pub Status-by-lengths : Type 0
+Status-by-lengths =
+    (q q' : ℕ) (w w' t t' : List ℕ) (c d : Call) → length w' ≡ length w → length t' ≡ length t → Lent-as-long c d →
+    (Searches w t c → Searches w' t' d → d .answer .status ≡ c .answer .status)
+    × ((q' < length w') ↔ (q < length w) → Converts q w t c → Converts q' w' t' d → d .answer .status ≡ c .answer .status)

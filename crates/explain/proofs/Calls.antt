@@ -31,11 +31,11 @@ module _ {b : ℕ} {w t : List ℕ} {lent left : Tables} {r : ExplainAnswer} (o 
   status : explain-status-of b w t lent ≡ 0
   status = done-only (explain-status-of b w t lent) b w t (o .answer) taken
 
-  fit : Explain-fit w t b lent
+  pub fit : Explain-fit w t b lent
   fit = explain-fit status
 
   -- what it answers and leaves
-  answer : r ≡ explained (explanation-in b w t)
+  pub answer : r ≡ explained (explanation-in b w t)
   unfolding explain-answer if-done
   answer = rw status at (o .answer)
 

@@ -14,8 +14,9 @@ kind-number Order = 2
 kind-number AfterOccurrence = 3
 kind-number LongRepeat = 4
 
--- what explaining answers where it is done: listed is 1, tried 2 with its motif place, passed over 3 with the motif place spoilt, the place shifted
--- from and the kind; 0 where a number is not told, and beside the status
+-- what explaining answers where it is done: 1 listed, 2 tried, 3 passed over and the shift's kind.
+-- `place` is a pattern position (motif place): the one that differed, or the one that is spoilt.
+-- `from` is a text position (chain place): the one shifted from. What is not told is 0
 abbrev pub explained : Explanation → ExplainAnswer
 explained Listed = record { answer = status-only 0; outcome = 1; place = 0; from = 0; kind = 0 }
 explained (Tried i) = record { answer = status-only 0; outcome = 2; place = i; from = 0; kind = 0 }

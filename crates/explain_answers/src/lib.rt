@@ -23,7 +23,7 @@ pub enum Explanation {
     Tried(u32),
     // the pattern was never laid there
     PassedOver {
-        // the position that it was shifted from
+        // the text position that it was shifted from
         from: u32,
         // the pattern position at which the earliest comparison (look) spoils it
         spoilt: u32,
@@ -37,9 +37,9 @@ pub struct ExplainAnswer {
     pub answer: Answer,
     // 1 listed, 2 tried, 3 passed over
     pub outcome: u32,
-    // the pattern position (motif place) that differed, or at which it is spoilt
+    // a pattern position (motif place): the one that differed, or the one that is spoilt
     pub place: u32,
-    // the position (chain place) that the pattern was shifted from
+    // a text position (chain place): the one that the pattern was shifted from
     pub from: u32,
     // 1 last byte, 2 order, 3 after an occurrence, 4 long repeat
     pub kind: u32,

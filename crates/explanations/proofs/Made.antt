@@ -1,5 +1,5 @@
--- An alignment that the search makes: it is a step, what it shows along its row, that all agree just where its position is an occurrence, and that the
--- kind of its shift is the one defined and no other. By the laws of one step, and by the tests of the kind.
+-- An alignment that the search makes: what it shows along its row, whether it is an occurrence and
+-- a repeat (`Repeats-meant`), and the one kind of its shift. By the laws of one step and the tests.
 use mathlib.Core.Bool.{Bool, true, false}
 use mathlib.Core.List.{List}
 use mathlib.Core.Logic.{⊎-elim}
@@ -12,11 +12,11 @@ use lib.ListN.{length}
 use Rattle.tables.proofs.Cases.{true-or-false, eq-or-ne}
 use Rattle.steps.proofs.Occurrences.{step-tells}
 use Rattle.steps.proofs.Runs.{By-step, by-step}
-use Rattle.steps.proofs.Steps.{Ends, agreeing-ends, step-is-occurrence, step-row, step-agreed, step-position}
+use Rattle.steps.proofs.Steps.{Ends, agreeing-ends, step-is-occurrence, step-is-repeat, step-row, step-agreed, step-position}
 use Rattle.steps.specs.Occurrences.{occurs}
 use Rattle.steps.specs.Steps.{Alignment, row, is-occurrence, comparisons-of}
 use Rattle.explanations.specs.Explanation.{kind-by, kind-of}
-use Rattle.explanations.specs.Promises.{Made, Shifts-by}
+use Rattle.explanations.specs.Promises.{Made, Shifts-by, Repeat-at, Repeats-meant}
 use Rattle.explain_answers.specs.declared.ShiftKind.{ShiftKind}
 use Rattle.explain_answers.specs.declared.ShiftKind.the-variants.{LastByte, Order, AfterOccurrence, LongRepeat}
 
@@ -30,7 +30,7 @@ module _ (f : ℕ → ℕ) (N : ℕ) (w : List ℕ) (nonempty : 1 ≤ length w) 
       let b = by .b in
       let s = by .s in
       let repeat = by .repeat in
-      let here = step-is-occurrence f w b s repeat ∙ step-tells f N w nonempty (comparisons-of (made .before)) b s repeat (by .known) (by .inside) in
+      let here = step-is-occurrence f w b s repeat ∙ step-tells f N w nonempty _ b s repeat (by .known .carried) (by .inside) in
       rw (by .same) (here ∙ sym (ap (occurs f N w) (step-position f w b s repeat)))
 
   pub ends : Ends f w (a .position) (a .row) (a .agreed)
@@ -80,3 +80,9 @@ module _ (f : ℕ → ℕ) (N : ℕ) (w : List ℕ) (nonempty : 1 ≤ length w) 
       (eq-or-ne (a .agreed) 0))
       (true-or-false (a .repeat)))
       (eq-or-ne (a .agreed) (length (a .row)))
+
+pub repeats-meant : Repeats-meant
+unfolding Repeats-meant Repeat-at
+repeats-meant f N w h a made =
+    let by = stepped f N w h made in
+    rw (by .same, step-is-repeat f w (by .b) (by .s) (by .repeat), step-position f w (by .b) (by .s) (by .repeat)) (by .known .tells)

@@ -1,5 +1,5 @@
--- Every position from which the pattern is shown whole has just one true explanation, the one defined (`One-explanation`), over any text.
--- The first alignment that reaches a position tells: those before it are passed over, and it lists, tries or passes the position.
+-- Each position has just one true explanation, the one defined (`One-explanation`): the first
+-- alignment that reaches it tells. The comparisons decide it (`Comparisons-explain`).
 use mathlib.Core.Bool.{Bool, true, false, true≢false}
 use mathlib.Core.List.{List, [], _∷_, _++_}
 use mathlib.Core.Logic.{_≢_, ⊎-elim}
@@ -11,18 +11,19 @@ use borrow.Author.Tests.{eq-eqb, ne-eqb, eqb-false, lt-ltb, le-ltb}
 use lib.ListN.{length, getD}
 use Rattle.tables.proofs.Cases.{true-or-false}
 use Rattle.steps.proofs.Compared.{compared-before}
+use Rattle.steps.proofs.Decide.{comparisons-decide}
 use Rattle.steps.proofs.Occurrences.{occurs-agrees}
 use Rattle.steps.proofs.Passed.{passed-spoilt}
 use Rattle.steps.proofs.Rows.{row-below}
 use Rattle.steps.proofs.Runs.{Follow, comparisons-split, follow-from, follows, reaching}
 use Rattle.steps.proofs.Steps.{step-row}
 use Rattle.steps.specs.Occurrences.{occurs}
-use Rattle.steps.specs.Promises.{Passed-spoilt, Spoilt}
-use Rattle.steps.specs.Steps.{Alignment, row, step, is-occurrence, alignments, comparisons-of}
+use Rattle.steps.specs.Promises.{Passed-spoilt, Spoilt, Same-at, Comparisons-decide}
+use Rattle.steps.specs.Steps.{Comparison, Alignment, row, step, is-occurrence, alignments, comparisons-of}
 use Rattle.explanations.proofs.Made.{stepped, occurring, ends, shifts-so, shifts-only}
 use Rattle.explanations.proofs.Spoilt.{earliest-first, first-earliest}
-use Rattle.explanations.specs.Explanation.{kind-of, first-spoilt, where-laid, explained-by, explanation}
-use Rattle.explanations.specs.Promises.{Made, Tried-at, Passed-at, True-of, One-explanation}
+use Rattle.explanations.specs.Explanation.{kind-of, spoils, first-spoilt, where-laid, explained-by, explanation}
+use Rattle.explanations.specs.Promises.{Made, Tried-at, Passed-at, True-of, One-explanation, Comparisons-explain}
 use Rattle.explain_answers.specs.declared.ShiftKind.{ShiftKind}
 use Rattle.explain_answers.specs.declared.Explanation.{Explanation}
 use Rattle.explain_answers.specs.declared.Explanation.the-variants.{Listed, Tried, PassedOver}
@@ -186,3 +187,14 @@ module _ (f : ℕ → ℕ) (N : ℕ) (w : List ℕ) (nonempty : 1 ≤ length w) 
 pub one-explanation : One-explanation
 unfolding One-explanation
 one-explanation f N w h b l = (true-of f N w h b l, only f N w h b l)
+
+first-same :
+    (f g : ℕ → ℕ) (w : List ℕ) (b : ℕ) (all : List Comparison) → Same-at all f g → first-spoilt g w b all ≡ first-spoilt f w b all
+unfolding Same-at first-spoilt spoils
+first-same f g w b [] same = refl
+first-same f g w b (c ∷ later) same = rw (same .0, first-same f g w b later (same .1))
+
+pub comparisons-explain : Comparisons-explain
+unfolding Comparisons-explain Comparisons-decide explanation
+comparisons-explain f g N w h same b =
+    rw (comparisons-decide f g N w h same, first-same f g w b (comparisons-of (alignments f N w)) same)

@@ -12,8 +12,9 @@ use Rattle.explain_answers.specs.declared.ShiftKind.the-variants.{LastByte, Ord
 use Rattle.explain_answers.specs.declared.Explanation.{Explanation}
 use Rattle.explain_answers.specs.declared.Explanation.the-variants.{Listed, Tried, PassedOver}
 
--- which kind of shift goes on from an alignment that is a repeat or not, and of whose row so many agreed of so many: after a find where all agree;
--- long repeat where one of a repeat differs, also the last card; else last card where the first comparison differs, and order where a later one does
+-- the kind of the shift from an alignment, in whose row `agreed` of `count` comparisons agreed. All
+-- agreed: after a find. One differed in a repeat, also at the last card: long repeat. Else the first
+-- comparison differed: last card; or a later one: order
 unfoldable pub kind-by : (repeat : Bool) → (agreed count : ℕ) → ShiftKind
 kind-by repeat agreed count = cond (eqb agreed count) AfterOccurrence (cond repeat LongRepeat (cond (eqb agreed 0) LastByte Order))
 
@@ -26,7 +27,7 @@ spoils f w b c =
     let x = c .text-position in
     leb b x && ltb x (b + length w) && not (eqb (f x) (byte w (x - b)))
 
--- the j at which the earliest of these comparisons that spoil b spoils it; m where none does
+-- the j at which b is spoilt first, by the earliest comparison that spoils it; m where none does
 unfoldable pub first-spoilt : (f : ℕ → ℕ) → (w : List ℕ) → (b : ℕ) → List Comparison → ℕ
 first-spoilt f w b [] = length w
 first-spoilt f w b (c ∷ later) = cond (spoils f w b c) (c .text-position - b) (first-spoilt f w b later)
@@ -35,8 +36,8 @@ first-spoilt f w b (c ∷ later) = cond (spoils f w b c) (c .text-position - b) 
 unfoldable pub where-laid : Alignment → Explanation
 where-laid a = cond (is-occurrence a) Listed (Tried (getD (a .row) (a .agreed) 0))
 
--- the first of the alignments that is at b, or whose shift goes past b, tells, j at which b is spoilt beside it. `Listed` where none does, which is
--- never asked (`One-explanation` of Promises)
+-- the first alignment that stands at b or shifts past b tells why. Where it shifts past b, j says
+-- where b is spoilt. With no such alignment `Listed`, which is never asked (`One-explanation`)
 unfoldable pub explained-by : (b j : ℕ) → List Alignment → Explanation
 explained-by b j [] = Listed
 explained-by b j (a ∷ later) =

@@ -2,13 +2,14 @@
 -- Each promise is a type, and its proof is in proofs/ (docs/PROMISES.md). These are definitions.
 use mathlib.Core.Bool.{true, false}
 use mathlib.Core.List.{List, _∷_, _++_}
-use mathlib.Core.Logic.{_≢_}
+use mathlib.Core.Logic.{_≢_, _↔_}
 use mathlib.Core.Path.{_≡_}
-use Prim.Native.Nat.{ℕ, _+_, _≤_, _<_}
+use Prim.Native.Nat.{ℕ, _+_, _*_, _-_, _≤_, _<_}
 use lib.ListN.{length, getD}
 use Rattle.tables.specs.Sets.{byte}
+use Rattle.tables.specs.Tables.{period}
 use Rattle.steps.specs.Occurrences.{occurs}
-use Rattle.steps.specs.Promises.{Compared-at}
+use Rattle.steps.specs.Promises.{Compared-at, Same-at}
 use Rattle.steps.specs.Steps.{Comparison, Alignment, alignments, comparisons-of}
 use Rattle.explanations.specs.Explanation.{explanation}
 use Rattle.explain_answers.specs.declared.ShiftKind.{ShiftKind}
@@ -52,6 +53,17 @@ Shifts-by f N w a LongRepeat = (a .agreed < length (a .row)) × (a .repeat ≡ t
 Shifts-by f N w a LastByte = (a .agreed < length (a .row)) × (a .repeat ≡ false) × (a .agreed ≡ 0)
 Shifts-by f N w a Order = (a .agreed < length (a .row)) × (a .repeat ≡ false) × (1 ≤ a .agreed)
 
+-- m is at least 3 × p, and p before b is an occurrence (find)
+unfoldable pub Repeat-at : (f : ℕ → ℕ) → (N : ℕ) → (w : List ℕ) → (b : ℕ) → Type 0
+Repeat-at f N w b = (3 * period w ≤ length w) × (period w ≤ b) × (occurs f N w (b - period w) ≡ true)
+
+-- an alignment is a repeat just where that is so of its position: whether a shift counts as long
+-- repeat is said by pattern and text, without the steps
+unfoldable pub Repeats-meant : Type 0
+Repeats-meant =
+    (f : ℕ → ℕ) (N : ℕ) (w : List ℕ) → 1 ≤ length w → (a : Alignment) → Made f N w a →
+    (a .repeat ≡ true) ↔ Repeat-at f N w (a .position)
+
 -- the pattern was never laid at b: the alignment at `from` shifted past it, by a shift of this kind, and the earliest comparison of the search that
 -- spoils b spoils it at j
 pub record Passed-at (f : ℕ → ℕ) (N : ℕ) (w : List ℕ) (b from j : ℕ) (kind : ShiftKind) : Type 0 where
@@ -75,3 +87,10 @@ unfoldable pub One-explanation : Type 0
 One-explanation =
     (f : ℕ → ℕ) (N : ℕ) (w : List ℕ) → 1 ≤ length w → (b : ℕ) → b + length w ≤ N →
     True-of f N w b (explanation f N w b) × ((e : Explanation) → True-of f N w b e → e ≡ explanation f N w b)
+
+-- texts of one span that show the same byte wherever the first search compares have the same
+-- explanation of every position
+unfoldable pub Comparisons-explain : Type 0
+Comparisons-explain =
+    (f g : ℕ → ℕ) (N : ℕ) (w : List ℕ) → 1 ≤ length w → Same-at (comparisons-of (alignments f N w)) f g →
+    (b : ℕ) → explanation g N w b ≡ explanation f N w b

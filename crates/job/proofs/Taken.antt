@@ -1,26 +1,18 @@
 -- What a status of 0 says, of a file, of reading and of writing: a fact for each condition, since none of them holds.
 -- The tests of the conditions, turned into facts and back.
-use mathlib.Core.Bool.{true, not}
+use mathlib.Core.Bool.{not}
 use mathlib.Core.List.{List, [], _∷_, _++_}
 use mathlib.Core.Path.{_≡_, ap}
-use Prim.Native.Nat.{ℕ, _+_, _≤_}
+use Prim.Native.Nat.{ℕ, _≤_}
 use native.Mathlib.Omega.{arith}
 use borrow.Author.Tests.{ltb-false, eqb-true, not-false, le-ltb, eq-eqb}
-use lib.ListN.{length}
-use Rattle.answers.proofs.Refusals.{None-holds, none-done, done-none, Within-limits, limits-hold, limits-none}
-use Rattle.answers.specs.Refusals.{Refusal, job-refusals, buffer-refusal}
-use Rattle.job.specs.Job.{file-length, edition-in, m-in, q-in, n-in, good-line, good-lines, file-refusals, file-status}
+use Rattle.answers.proofs.Refusals.{none-done, done-none, limits-hold, limits-none}
+use Rattle.answers.specs.Promises.{None-holds}
+use Rattle.answers.specs.Refusals.{Refusal, job-refusals, Within-limits, buffer-refusal}
+use Rattle.job.specs.Job.{file-length, m-in, q-in, n-in, file-refusals, file-status}
+use Rattle.job.specs.Promises.{File-taken, Taken-right}
 use Rattle.job.specs.Read.{read-status}
 use Rattle.job.specs.Write.{write-status}
-
--- a file is taken
-pub record File-taken (file : List ℕ) : Type 0 where
-  pub long : 11 ≤ length file
-  pub first : good-line 10 0 file ≡ true
-  pub edition : edition-in file ≡ 1
-  pub limits : Within-limits (m-in file) (q-in file) (n-in file)
-  pub size : length file ≡ file-length (m-in file) (n-in file)
-  pub rest : good-lines (m-in file + n-in file) 11 file ≡ true
 
 -- with any conditions past the file's own
 module _ (file : List ℕ) (rs : List Refusal) where
@@ -60,6 +52,10 @@ module _ (file : List ℕ) where
   pub file-taken-done : File-taken file → file-status file ≡ 0
   unfolding file-status file-refusals job-refusals
   file-taken-done t = none-done (file-refusals file) (none file [] t tt)
+
+pub taken-right : Taken-right
+unfolding Taken-right
+taken-right file = (file-taken file, file-taken-done file)
 
 -- a file is read: it is taken, and the buffers have room
 pub record Readable (file : List ℕ) (pattern-len text-len : ℕ) : Type 0 where

@@ -1,16 +1,33 @@
--- What is promised of job files: written and read again, and read and written again, of the definitions and of the calls.
--- Each is a type, and its proof is in proofs/. These are definitions.
+-- What is promised of job files: which are taken; and that they are written and read again, and
+-- read and written again, of the definitions and of the calls. Each is a type, and its proof is
+-- in proofs/. These are definitions.
+use mathlib.Core.Bool.{true}
 use mathlib.Core.List.{List}
+use mathlib.Core.Logic.{_↔_}
 use mathlib.Core.Path.{_≡_}
-use Prim.Native.Nat.{ℕ, _≤_, _<_}
+use Prim.Native.Nat.{ℕ, _+_, _≤_, _<_}
 use lib.ListN.{length, take}
 use Rattle.answers.specs.Bytes.{Bytes}
-use Rattle.answers.specs.Refusals.{longest-pattern, longest-text}
-use Rattle.job.specs.Job.{job-file, file-status, q-in, pattern-in, text-in}
+use Rattle.answers.specs.Refusals.{longest-pattern, longest-text, Within-limits}
+use Rattle.job.specs.Job.{job-file, file-length, file-status, edition-in, m-in, q-in, n-in, pattern-in, text-in, good-line, good-lines}
 use Rattle.job.specs.Read.{Read-outcome}
 use Rattle.job.specs.Write.{Write-outcome}
 use Rattle.job.specs.declared.ReadAnswer.{ReadAnswer}
 use Rattle.job.specs.declared.WriteAnswer.{WriteAnswer}
+
+-- a file that is taken: its first line is ten digits and a line end, of edition 01, with m, q and n
+-- within the limits; it has 11 + 3 × m + 3 × n bytes; and m + n lines of two digits follow
+pub record File-taken (file : List ℕ) : Type 0 where
+  pub long : 11 ≤ length file
+  pub first : good-line 10 0 file ≡ true
+  pub edition : edition-in file ≡ 1
+  pub limits : Within-limits (m-in file) (q-in file) (n-in file)
+  pub size : length file ≡ file-length (m-in file) (n-in file)
+  pub rest : good-lines (m-in file + n-in file) 11 file ≡ true
+
+-- the status of a file is 0 just where it is such a file
+unfoldable pub Taken-right : Type 0
+Taken-right = (file : List ℕ) → (file-status file ≡ 0) ↔ File-taken file
 
 -- a file is taken, and gives this hold offset (hold place), pattern (motif) and text (chain)
 pub record Gives (file : List ℕ) (q : ℕ) (w t : List ℕ) : Type 0 where

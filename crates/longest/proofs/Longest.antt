@@ -1,5 +1,5 @@
--- Every shift is the longest that its facts allow (`longest-shifts`), and those of Δ2 are an alignment's own (`order-facts`): a shorter one is in a set of a fact, so no text with the facts has an
--- occurrence there. The text that has one at k is the pattern laid at k, with what the facts show before it.
+-- Every shift is the longest its facts allow (`longest-shifts`, `prepared-longest`, `order-facts`).
+-- A shorter one is in a fact's set; the pattern laid at k, behind what the facts show, reaches k.
 use mathlib.Core.Bool.{true, false, cond}
 use mathlib.Core.List.{List}
 use mathlib.Core.Logic.{_≢_, _⊎_, inl, inr, ⊎-elim}
@@ -10,25 +10,31 @@ use native.Mathlib.Omega.{arith}
 use borrow.Author.Tests.{lt-ltb, le-ltb, eq-eqb, ne-eqb}
 use lib.Dec.{ltb, eqb}
 use lib.ListN.{length, getD}
+use Rattle.answers.proofs.Answered.{done-only}
 use Rattle.answers.proofs.Bytes.{bytes-entry, each-byte}
+use Rattle.answers.proofs.Fronts.{in-front-entry}
+use Rattle.answers.specs.Answers.{if-done}
 use Rattle.answers.specs.Bytes.{Bytes}
+use Rattle.prepare.proofs.Prepared.{prepare-fit}
 use Rattle.tables.proofs.Cases.{eq-or-ne, true-or-false, le-or-lt}
 use Rattle.tables.proofs.FirstShift.{Δ1-facts}
 use Rattle.tables.proofs.Groups.{order-inside}
 use Rattle.tables.proofs.LaterShift.{entry-at, Δ2-facts}
 use Rattle.tables.proofs.Order.{order-length, order-distinct}
-use Rattle.tables.proofs.RepeatShift.{Δ3-facts}
-use Rattle.tables.proofs.Stored.{values-length, values-entry}
+use Rattle.tables.proofs.RepeatShift.{Δ3-facts, stored-Δ3-length, stored-Δ3-defined, Δ3-defined-bounds}
+use Rattle.tables.proofs.Stored.{values-length, values-entry, stored-Δ2-length, stored-Δ2-entry, stored-Δ1-inside, stored-Δ1-entry}
+use Rattle.tables.specs.Buffers.{tables-left}
 use Rattle.tables.specs.Facts.{In-pos, In-neg, Out-neg, Known, Refuted, by-agreed, by-differing, Later-shift}
+use Rattle.tables.specs.Prepare.{prepare-done}
 use Rattle.tables.specs.Sets.{byte}
-use Rattle.tables.specs.Tables.{period, order, h-at, values-from, Δ1, Δ2, Δ3}
+use Rattle.tables.specs.Tables.{period, order, h-at, values-from, Δ1, stored-Δ1, Δ2, stored-Δ2, Δ3, stored-Δ3}
 use Rattle.steps.proofs.Occurrences.{occurs-agrees, agrees-occurs}
 use Rattle.steps.proofs.Steps.{Ends, agreeing-ends}
 use Rattle.steps.proofs.Text.{shown-byte, span-covers}
 use Rattle.steps.specs.Occurrences.{occurs}
 use Rattle.steps.specs.Steps.{agreeing}
 use Rattle.steps.specs.Text.{shown, span}
-use Rattle.longest.specs.Longest.{First-facts, Later-facts, Repeat-facts, Longest, Longest-shifts, Order-facts}
+use Rattle.longest.specs.Longest.{First-facts, Later-facts, Repeat-facts, Longest, Longest-shifts, Prepared-longest, Order-facts}
 
 -- an occurrence at j shows w(g - j) at g
 module _ (w : List ℕ) (f : ℕ → ℕ) (N j g : ℕ) (l : g < length w) where
@@ -269,3 +275,27 @@ order-facts f w b (suc x) some l u = (λ e. rw (sym (back e)) at facts-shown, λ
         let not-more : ¬ (x < n) = λ c.
         rw (entry-at w x) at (facts .differing (omega (arith, ends .within, order-length w some))) (sym (ends .agree x c)) in
         omega arith
+
+-- every shift that `prepare` leaves: an entry of a stored table, which its buffer begins with
+pub prepared-longest : Prepared-longest
+unfolding Prepared-longest Longest-shifts tables-left if-done
+prepared-longest w lent left r bytes outcome status =
+    let done = done-only _ (prepare-done w) (outcome .answer) status in
+    let fit = prepare-fit {w = w} {lent = lent} done in
+    let longest = longest-shifts w bytes (fit .taken .some) in
+    rw (outcome .tables, done)
+    (record {
+      first = λ c s small l u.
+          rw (in-front-entry (stored-Δ1 w) (lent .delta1) _ 0 (stored-Δ1-inside w c s small l u), stored-Δ1-entry w c s small l u)
+          (longest .first c s small l u);
+      later = λ i l u.
+          let back : suc (i - 1) ≡ i = omega arith in
+          let inside : i - 1 < length (stored-Δ2 w) = omega (arith, stored-Δ2-length w) in
+          rw (in-front-entry (stored-Δ2 w) (lent .delta2) _ 0 inside, stored-Δ2-entry w (i - 1) (omega arith) (omega arith), back)
+          (longest .later i (omega arith) u);
+      repeat = λ i e.
+          let (repeats, low, high) = Δ3-defined-bounds w i e in
+          let inside : i < length (stored-Δ3 w) = omega (arith, stored-Δ3-length w) in
+          rw (in-front-entry (stored-Δ3 w) (lent .delta3) i 0 inside, stored-Δ3-defined w i (omega arith) e)
+          (longest .repeat i (omega arith) (omega arith));
+    })

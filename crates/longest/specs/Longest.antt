@@ -4,11 +4,14 @@ use mathlib.Core.Bool.{true, false}
 use mathlib.Core.List.{List}
 use mathlib.Core.Logic.{_≢_, _↔_}
 use mathlib.Core.Path.{_≡_}
-use Prim.Native.Nat.{ℕ, _+_, _-_, _≤_, _<_}
-use lib.ListN.{length}
+use Prim.Native.Nat.{ℕ, _+_, _*_, _-_, _≤_, _<_}
+use lib.ListN.{length, getD}
 use Rattle.answers.specs.Bytes.{Bytes}
+use Rattle.answers.specs.declared.Answer.{Answer}
+use Rattle.tables.specs.Buffers.{Tables}
+use Rattle.tables.specs.Prepare.{Prepare-outcome}
 use Rattle.tables.specs.Sets.{byte}
-use Rattle.tables.specs.Tables.{period, order, h-at, Δ1, Δ2, Δ3}
+use Rattle.tables.specs.Tables.{period, order, h-at, Δ1, Δ2, Δ3, Δ3-defined}
 use Rattle.steps.specs.Occurrences.{occurs}
 use Rattle.steps.specs.Steps.{agreeing}
 use Rattle.steps.specs.Text.{shown, span}
@@ -44,6 +47,19 @@ pub record Shifts-longest (w : List ℕ) : Type 0 where
 
 unfoldable pub Longest-shifts : Type 0
 Longest-shifts = (w : List ℕ) → Bytes w → 1 ≤ length w → Shifts-longest w
+
+-- every shift in the tables' buffers is a longest one: Δ1(c, s) at c × m + s - 1, Δ2(i) at i - 1,
+-- and Δ3(i) at i where it is defined
+pub record Stored-longest (w : List ℕ) (left : Tables) : Type 0 where
+  pub first :
+      (c s : ℕ) → c < 256 → 1 ≤ s → s ≤ length w → Longest w (First-facts w c s) (getD (left .delta1) (c * length w + s - 1) 0)
+  pub later : (i : ℕ) → 2 ≤ i → i ≤ length w + 1 → Longest w (Later-facts w i) (getD (left .delta2) (i - 1) 0)
+  pub repeat : (i : ℕ) → Δ3-defined w i ≡ true → Longest w (Repeat-facts w i) (getD (left .delta3) i 0)
+
+-- and `prepare`, where it is done, leaves such shifts
+unfoldable pub Prepared-longest : Type 0
+Prepared-longest =
+    (w : List ℕ) (lent left : Tables) (r : Answer) → Bytes w → Prepare-outcome w lent left r → r .status ≡ 0 → Stored-longest w left
 
 -- the facts of Δ2(i) are those of an alignment by the order: the text from b on has them just where i - 1 comparisons agree at b
 unfoldable pub Order-facts : Type 0

@@ -8,11 +8,11 @@ use native.Mathlib.Omega.{arith}
 use lib.ListN.{length, getD}
 use Rattle.tables.proofs.RepeatRow.{repeats-holds, repeat-shifts-entry}
 use Rattle.tables.proofs.RepeatShift.{Δ3-defined-at, stored-Δ3-length, stored-Δ3-defined}
-use Rattle.tables.proofs.Stored.{stored-Δ2-length, stored-Δ1-length}
+use Rattle.tables.proofs.Stored.{stored-Δ2-length, stored-Δ1-inside, stored-Δ1-entry}
 use Rattle.tables.specs.Tables.{period, Δ1, stored-Δ2, stored-Δ1, repeats, stored-Δ3}
 use Rattle.steps.proofs.Rows.{row-length}
 use Rattle.steps.proofs.Steps.{agreeing-at-most, step-shift-later}
-use Rattle.progress.proofs.Stored.{begins-room, begins-entry, stored-Δ1-inside, stored-Δ1-entry}
+use Rattle.progress.proofs.Stored.{begins-room, begins-entry}
 use Rattle.progress.specs.Progress.{Begins, Taken, Compared-so}
 use Rattle.steps.specs.Steps.{row, shifts, step}
 use Rattle.steps.specs.Text.{shown}
@@ -30,13 +30,10 @@ pub first-entry :
     (w : List ℕ) {delta1 : List ℕ} {c s : ℕ} → Begins (stored-Δ1 w) delta1 → c < 256 → 1 ≤ s → s ≤ length w →
     Entry-at delta1 (first-place w c s) (Δ1 w c s)
 first-entry w {delta1} {c} {s} ready seen positive within =
-    let i = first-place w c s in
-    let at : i + 1 ≡ c * length w + s = omega arith in
-    let in-table = stored-Δ1-inside w c s i seen positive within at in
-    let whole = stored-Δ1-length w in
+    let in-table = stored-Δ1-inside w c s seen positive within in
     record {
       inside = omega (arith, begins-room (stored-Δ1 w) delta1 ready);
-      value-there = begins-entry (stored-Δ1 w) delta1 ready i 0 (omega arith) ∙ stored-Δ1-entry w c s i seen positive within at;
+      value-there = begins-entry (stored-Δ1 w) delta1 ready (first-place w c s) 0 in-table ∙ stored-Δ1-entry w c s seen positive within;
     }
 
 module _ {w t : List ℕ} (taken : Taken w t) (b : ℕ) where

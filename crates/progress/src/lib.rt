@@ -54,8 +54,9 @@ pub fn first_shift_around(pattern: &[u8], text: &[u8], delta1: &[u16], b: usize,
     shift_by(pattern, delta1, seen, s)
 }
 
-// Passes over the alignments that end inside the text, as long as their first comparison, that of the last position, differs. Where a repeat comes next
-// it ends past the text, and none is passed. It is public for the crate that runs the steps.
+// Passes over the alignments that end inside the text, as long as their first comparison, that of
+// the last position, differs. The next alignment is a repeat only where it ends past the text;
+// then none is passed. It is public for the crate that runs the steps.
 pub fn pass_differing(pattern: &[u8], text: &[u8], delta1: &[u16], begin: Progress) -> Progress
     requires { ⌜ Begins (stored-Δ1 (now pattern)) (now delta1) ⌝ }
     requires { ⌜ Taken (now pattern) (now text) ⌝ }

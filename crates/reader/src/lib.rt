@@ -37,10 +37,10 @@ fn pair(high: u8, low: u8) -> Parsed
     let Parsed::Value(sixteens) = hex::digit_value(high) else {
         return Parsed::Refused;
     };
-    let Parsed::Value(ones) = hex::digit_value(low) else {
+    let Parsed::Value(units) = hex::digit_value(low) else {
         return Parsed::Refused;
     };
-    Parsed::Value(sixteens * 16 + ones)
+    Parsed::Value(sixteens * 16 + units)
 }
 
 // The number that two digits at a place of the file give.
@@ -92,8 +92,8 @@ fn is_line(high: u8, low: u8, end: u8) -> bool
     }
 }
 
-// Whether so many lines of two digits stand in the file from a place on. The good ones are counted, so that the loop has no way out before
-// its end.
+// Whether so many lines of two digits stand in the file from a place on. The good lines are
+// counted, so that the loop has no way out before its end.
 fn are_lines(file: &[u8], count: usize, from: usize) -> bool
     requires { ⌜ from + 3 * count ≤ length (now file) ⌝ }
     requires { ⌜ count < 65536 ⌝ }

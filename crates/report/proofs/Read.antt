@@ -6,8 +6,9 @@ use Prim.Native.Nat.{ℕ, _≤_}
 use native.Mathlib.Omega.{arith}
 use borrow.Author.Tests.{le-ltb}
 use lib.ListN.{length}
-use Rattle.answers.proofs.Refusals.{None-holds, none-done, same-past, Within-limits}
-use Rattle.answers.specs.Refusals.{Refusal, first-of, longest-pattern, longest-text, buffer-refusal}
+use Rattle.answers.proofs.Refusals.{none-done, same-past}
+use Rattle.answers.specs.Promises.{None-holds}
+use Rattle.answers.specs.Refusals.{Refusal, first-of, longest-pattern, longest-text, Within-limits, buffer-refusal}
 use Rattle.job.proofs.CallsRoundTrip.{read-status-of, read-back}
 use Rattle.job.proofs.Lengths.{length-pattern, length-text}
 use Rattle.job.proofs.Taken.{file-taken}

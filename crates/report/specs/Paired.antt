@@ -16,8 +16,9 @@ use Rattle.ones.specs.Ones.{ones-of}
 use Rattle.printer.specs.Printed.{report-lines}
 use Rattle.report.specs.Report.{seek-report}
 
--- what a file prints: the lines of h, C, p, the bound and the occurrences (finds) are those of a search for w in t; the line of the ones (holes) and
--- the lines of the frames are those of its own text, and the same of these are holds
+-- what a file prints. A search for w in t gives the lines of h, C, p, the bound and the occurrences
+-- (finds). The file's own text gives the line of the ones (holes) and the lines of the frames. The
+-- frames of its text are holds at the same positions as those of t.
 pub record Prints-as (q : ℕ) (w t file : List ℕ) : Type 0 where
   pub lines-printed :
       seek-report file ≡ report-lines (converted (search-done w t) (ones-of (text-in file))) (occurrences w t) (frames q w (text-in file))

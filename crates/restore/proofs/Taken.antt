@@ -8,8 +8,8 @@ use Prim.Native.Nat.{ℕ, _≤_}
 use native.Mathlib.Omega.{arith}
 use borrow.Author.Tests.{ltb-false, le-ltb, not-false}
 use lib.ListN.{length}
-use Rattle.answers.proofs.Refusals.{Within-limits, done-none, limits-hold, limits-none}
-use Rattle.answers.specs.Refusals.{first-of, job-refusals, buffer-refusal}
+use Rattle.answers.proofs.Refusals.{done-none, limits-hold, limits-none}
+use Rattle.answers.specs.Refusals.{first-of, job-refusals, Within-limits, buffer-refusal}
 use Rattle.answers.specs.declared.Answer.{Answer}
 use Rattle.tables.proofs.Cases.{true-or-false, clash}
 use Rattle.conversions.proofs.Restored.{test-right}

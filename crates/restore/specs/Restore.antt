@@ -30,6 +30,6 @@ pub record Restore-outcome-of (s q : ℕ) (w gs text text' : List ℕ) (r : Answ
   pub answer : r ≡ status-only s
   pub text-left : text' ≡ restored-left s q w gs text
 
--- of the status that its conditions give
+-- what `restore` answers and leaves, with the number of the first condition that holds, or 0
 abbrev pub Restore-outcome : (q : ℕ) (w frames text text' : List ℕ) (r : Answer) → Type 0
 Restore-outcome q w gs text text' r = Restore-outcome-of (restore-status q w gs (length text)) q w gs text text' r

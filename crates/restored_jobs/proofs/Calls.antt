@@ -1,4 +1,4 @@
--- Both round trips by calls (`Calls-converted-restored`, `Calls-restored-converted`), for every outcome that their contracts allow.
+-- Both round trips by calls, and equal frames of two conversions (`Calls-injective`), for every outcome.
 -- The second call meets no condition of refusal, since the first met none; so both leave what the definitions give, whose round trips do the rest.
 use mathlib.Core.List.{List}
 use mathlib.Core.Path.{_≡_, refl, sym, _∙_, ap}
@@ -14,12 +14,12 @@ use Rattle.converter.proofs.Paired.{frames-by}
 use Rattle.converter.proofs.Taken.{conversion-taken, conversion-done}
 use Rattle.converter.specs.Convert.{convert-status-of}
 use Rattle.converter.specs.Paired.{Call, Converts, Call-taken}
-use Rattle.conversions.proofs.Restored.{length-restored, converted-restored, restored-converted, frames-pass}
+use Rattle.conversions.proofs.Restored.{length-restored, converted-restored, conversion-injective, restored-converted, frames-pass}
 use Rattle.restore.proofs.Taken.{restorable, restorable-done, status-of}
-use Rattle.conversions.specs.Promises.{Converted-restored, Restored-converted}
+use Rattle.conversions.specs.Promises.{Converted-restored, Conversion-injective, Restored-converted}
 use Rattle.restore.specs.Restore.{restore-status, restored-left, Restore-outcome-of}
 use Rattle.conversions.specs.Restored.{restored}
-use Rattle.restored_jobs.specs.Calls.{Restored-to, Calls-converted-restored, Converted-to, Calls-restored-converted}
+use Rattle.restored_jobs.specs.Calls.{Restored-to, Calls-converted-restored, Calls-injective, Converted-to, Calls-restored-converted}
 
 -- `restore` that is done leaves what is put back
 restored-to :
@@ -50,6 +50,12 @@ calls-converted-restored q w t c ht h e text text' r o room =
       conversion = frames-pass q w t ht (limits .hold-offset);
     } in
     rw (converted-restored q w t ht (limits .hold-offset)) at (restored-to (rw again at (rw left at o)))
+
+pub calls-injective : Calls-injective
+unfolding Calls-injective Conversion-injective
+calls-injective q w t u c d b b' h e h' e' same =
+    let inside = conversion-taken (done-only _ _ (h .answer) e) .limits .hold-offset in
+    conversion-injective q w t u b b' inside (sym (frames-by h e) ∙ same ∙ frames-by h' e')
 
 pub calls-restored-converted : Calls-restored-converted
 unfolding Calls-restored-converted Restored-converted

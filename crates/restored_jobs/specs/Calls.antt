@@ -1,5 +1,6 @@
--- Both round trips by whole calls (document 02, "Back to cards"): `convert` and `restore`, one on what the other left. Each is a type, and its
--- proof is in proofs/. These are definitions.
+-- Both round trips by whole calls (document 02, "Back to cards"): `convert` and `restore`, one on
+-- what the other left; and equal frames of two conversions. Each is a type, and its proof is in
+-- proofs/. These are definitions.
 use mathlib.Core.Bool.{false}
 use mathlib.Core.List.{List}
 use mathlib.Core.Path.{_≡_}
@@ -22,6 +23,14 @@ Calls-converted-restored =
     (q : ℕ) (w t : List ℕ) (c : Call) → Bytes t → Converts q w t c → Call-taken c
     → (text text' : List ℕ) (r : Answer) → Restore-outcome q w (take (length t) (c .left .frames)) text text' r
     → length t ≤ length text → Restored-to t text' r
+
+-- two conversions by one pattern (motif) and one hold offset (hold place), both taken: where they
+-- leave equal frames, their texts are equal
+unfoldable pub Calls-injective : Type 0
+Calls-injective =
+    (q : ℕ) (w t u : List ℕ) (c d : Call) → Bytes t → Bytes u
+    → Converts q w t c → Call-taken c → Converts q w u d → Call-taken d
+    → take (length t) (c .left .frames) ≡ take (length u) (d .left .frames) → t ≡ u
 
 -- the buffers that `convert` is lent are long enough for this pattern (motif) and so many frames
 pub record Room-for (w : List ℕ) (n : ℕ) (lent : Buffers) : Type 0 where

@@ -5,7 +5,8 @@ use mathlib.Core.List.{List, [], _∷_}
 use mathlib.Core.Path.{_≡_, refl}
 use Prim.Native.Nat.{ℕ, zero, suc, _+_, _≤_, _<_}
 use native.Mathlib.Omega.{arith}
-use Rattle.ring.specs.Ring.{passing}
+use lib.ListN.{length, getD}
+use Rattle.ring.specs.Ring.{passing, Strictly-ascending}
 
 -- the entries are from `low` on and below `high`, and each is above the one before it
 abbrev pub Ascends : (low high : ℕ) → List ℕ → Type 0
@@ -15,6 +16,19 @@ Ascends low high (b ∷ later) = (low ≤ b) × (b < high) × Ascends (suc b) hi
 ascends-lower : (low low' high : ℕ) (l : List ℕ) → low ≤ low' → Ascends low' high l → Ascends low high l
 ascends-lower low low' high [] h a = tt
 ascends-lower low low' high (b ∷ later) h a = (omega arith, a .1, a .2)
+
+-- every entry is from `low` on, and below every later one
+ascends-above : (low high : ℕ) (l : List ℕ) → Ascends low high l → (j : ℕ) → j < length l → low ≤ getD l j 0
+ascends-above low high [] a j u = absurd (omega arith)
+ascends-above low high (b ∷ later) a zero u = a .0
+ascends-above low high (b ∷ later) a (suc j) u = omega (arith, a .0, ascends-above (suc b) high later (a .2) j (omega arith))
+
+pub ascends-strictly : (low high : ℕ) (l : List ℕ) → Ascends low high l → Strictly-ascending l
+unfolding Strictly-ascending
+ascends-strictly low high [] a i j l u = absurd (omega arith)
+ascends-strictly low high (b ∷ later) a i zero l u = absurd (omega arith)
+ascends-strictly low high (b ∷ later) a zero (suc j) l u = ascends-above (suc b) high later (a .2) j (omega arith)
+ascends-strictly low high (b ∷ later) a (suc i) (suc j) l u = ascends-strictly (suc b) high later (a .2) i j (omega arith) (omega arith)
 
 pub passing-ascends : (n i high : ℕ) (f : ℕ → Bool) → i + n ≤ high → Ascends i high (passing n i f)
 unfolding passing

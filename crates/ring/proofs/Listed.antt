@@ -1,8 +1,8 @@
 -- Which numbers a list has: the numbers that pass a test, a list moved by a function, and how many there are below n.
 -- By induction on the list or on the run.
-use mathlib.Core.Bool.{Bool, false, _||_}
+use mathlib.Core.Bool.{Bool, true, false, _||_}
 use mathlib.Core.List.{List, [], _∷_, map}
-use mathlib.Core.Logic.{⊎-elim}
+use mathlib.Core.Logic.{_≢_, ⊎-elim}
 use mathlib.Core.Path.{_≡_, refl, sym, _∙_, ap}
 use Prim.Native.Nat.{ℕ, zero, suc, _+_, _≤_, _<_}
 use native.Mathlib.Nat.{eq-or-lt-of-le}
@@ -10,33 +10,22 @@ use native.Mathlib.Omega.{arith}
 use borrow.Author.Tests.{eq-eqb, ne-eqb}
 use lib.Dec.{eqb}
 use lib.ListN.{length}
-use Rattle.tables.proofs.Cases.{true-or-false}
+use Rattle.tables.proofs.Cases.{true-or-false, eq-or-ne, clash}
 use Rattle.ring.proofs.Ascending.{Ascends, passing-ascends, passing-same, passing-none}
 use Rattle.ring.proofs.Back.{Inverse, inverse-test, inverse-once}
 use Rattle.ring.specs.Ring.{is-in, passing, ascending}
 
--- a number before the run is not among those that pass
-before-passing : (n low i : ℕ) (f : ℕ → Bool) → i < low → is-in (passing n low f) i ≡ false
+-- a number is among those of a run that pass just where it passes, if it then is one of the run
+pub is-in-passing : (n low i : ℕ) (f : ℕ → Bool) → (f i ≡ true → (low ≤ i) × (i < low + n)) → is-in (passing n low f) i ≡ f i
 unfolding passing is-in
-before-passing zero low i f l = refl
-before-passing (suc n) low i f l =
+is-in-passing zero low i f inside =
+    ⊎-elim (λ y. let (l, u) = inside y in absurd (omega arith)) (λ y. sym y) (true-or-false (f i))
+is-in-passing (suc n) low i f inside =
+    let later : (f i ≡ true → low ≢ i) → is-in (passing n (suc low) f) i ≡ f i = λ other.
+    is-in-passing n (suc low) i f (λ y. let (l, u) = inside y in (omega (arith, other y), omega arith)) in
     ⊎-elim
-    (λ y. rw (y, ne-eqb low i (λ e. omega arith)) (before-passing n (suc low) i f (omega arith)))
-    (λ y. rw y (before-passing n (suc low) i f (omega arith)))
-    (true-or-false (f low))
-
--- a number of the run is among them just where it passes
-is-in-passing : (n low i : ℕ) (f : ℕ → Bool) → low ≤ i → i < low + n → is-in (passing n low f) i ≡ f i
-unfolding passing is-in
-is-in-passing zero low i f l u = absurd (omega arith)
-is-in-passing (suc n) low i f l u =
-    let place = eq-or-lt-of-le l in
-    let later : low < i → is-in (passing n (suc low) f) i ≡ f i = λ g. is-in-passing n (suc low) i f g (omega arith) in
-    ⊎-elim
-    (λ y.
-    rw y
-    (⊎-elim (λ e. rw (eq-eqb low i e) (sym (rw e at y))) (λ g. rw (ne-eqb low i (λ e. omega arith)) (later g)) place))
-    (λ y. rw y (⊎-elim (λ e. before-passing n (suc low) i f (omega arith) ∙ sym (rw e at y)) later place))
+    (λ y. rw y (⊎-elim (λ e. rw (eq-eqb low i e) (sym (rw e at y))) (λ d. rw (ne-eqb low i d) (later (λ x. d))) (eq-or-ne low i)))
+    (λ y. rw y (later (λ x e. clash (f i) x (rw e at y))))
     (true-or-false (f low))
 
 -- one number more passes
@@ -69,7 +58,7 @@ module _ {n : ℕ} {f g : ℕ → ℕ} (v : Inverse n f g) where
   pub is-in-passing-moved : (test : ℕ → Bool) (i : ℕ) → i < n → is-in (map f (passing n 0 test)) i ≡ test (g i)
   is-in-passing-moved test i l =
       is-in-moved 0 i (passing n 0 test) (passing-ascends n 0 n test (omega arith)) l
-      ∙ is-in-passing n 0 (g i) test (omega arith) (omega (arith, v .inside-back i l))
+      ∙ is-in-passing n 0 (g i) test (λ y. (omega arith, omega (arith, v .inside-back i l)))
 
   -- where each number passes a test just where the one that is moved to it passes another, those that pass are those of the other, moved, ascending
   -- again

@@ -1,18 +1,20 @@
--- The occurrences in a ring (`Occurrences-around`): the positions of the text that pass the test, which ascend.
--- From no other position the pattern is shown whole, and from each of these it is.
-use mathlib.Core.Bool.{Bool}
+-- The occurrences in a ring (`Occurrences-around`, `Occurrences-meant`): the text's positions that
+-- pass the test, which ascend. From each of its positions the pattern is shown whole, and no other.
+use mathlib.Core.Bool.{Bool, true}
 use mathlib.Core.List.{List}
-use mathlib.Core.Path.{_≡_, refl, _∙_}
+use mathlib.Core.Path.{_≡_, refl, sym, _∙_}
 use Prim.Native.Nat.{ℕ, zero, suc, _+_, _≤_, _<_}
 use native.Mathlib.Omega.{arith}
 use borrow.Author.Tests.{le-leb, lt-leb}
 use lib.ListN.{length}
-use Rattle.steps.proofs.Text.{span-reaches, span-covers, span-few}
+use Rattle.steps.proofs.Occurrences.{occurs-agrees, agrees-occurs, occurs-inside}
+use Rattle.steps.proofs.Text.{span-reaches, span-covers, span-few, span-ends}
 use Rattle.steps.specs.Occurrences.{occurs, occurrences-from, all-occurrences, occurrences}
 use Rattle.steps.specs.Text.{shown, span}
-use Rattle.ring.proofs.Ascending.{Ascends, passing-ascends, passing-same}
-use Rattle.ring.specs.Promises.{Occurrences-around}
-use Rattle.ring.specs.Ring.{passing}
+use Rattle.ring.proofs.Ascending.{Ascends, ascends-strictly, passing-ascends, passing-same}
+use Rattle.ring.proofs.Listed.{is-in-passing}
+use Rattle.ring.specs.Promises.{Occurrences-around, Occurs-at, Occurrences-meant}
+use Rattle.ring.specs.Ring.{is-in, passing}
 
 -- the occurrences are those of the first k positions that pass the test, where from no other the pattern is shown whole
 passing-first :
@@ -38,6 +40,25 @@ module _ (w t : List ℕ) (some : 1 ≤ length w) where
   -- they ascend, each once, below n
   pub occurrences-ascend : Ascends 0 (length t) (occurrences w t)
   occurrences-ascend = rw occurrences-passing (passing-ascends (length t) 0 (length t) _ (omega arith))
+
+  -- an occurrence is a position of the text
+  occurs-below : (b : ℕ) → occurs-in w t b ≡ true → b < length t
+  occurs-below b e = span-ends w t some b (occurs-inside (shown t) (span w t) w b e)
+
+  -- a number is among them just where it is an occurrence
+  pub is-in-occurrences : (b : ℕ) → is-in (occurrences w t) b ≡ occurs-in w t b
+  is-in-occurrences b =
+      rw occurrences-passing (is-in-passing (length t) 0 b (occurs-in w t) (λ e. (omega arith, omega (arith, occurs-below b e))))
+
+pub occurrences-meant : Occurrences-meant
+unfolding Occurrences-meant Occurs-at shown
+occurrences-meant w t some = (
+  λ b. rw (is-in-occurrences w t some b) (
+    λ e. (occurs-below w t some b e, λ j l. sym (occurs-agrees (shown t) (span w t) w b e j l)),
+    λ (l, each). agrees-occurs (shown t) (span w t) w b (span-reaches w t some b l) (λ j u. sym (each j u)),
+  ),
+  ascends-strictly 0 (length t) (occurrences w t) (occurrences-ascend w t some),
+)
 
 pub occurrences-around : Occurrences-around
 unfolding Occurrences-around occurs shown

@@ -3,6 +3,7 @@ use mathlib.Core.Bool.{Bool, false, _||_, cond}
 use mathlib.Core.List.{List, [], _∷_}
 use Prim.Native.Nat.{ℕ, zero, suc, _+_, _-_, _%_}
 use lib.Dec.{eqb}
+use Rattle.tables.specs.Promises.{Rising}
 
 -- i - k modulo n: the position below n from which k further on around the ring is i
 unfoldable pub back : (n i k : ℕ) → ℕ
@@ -21,3 +22,7 @@ passing (suc n) i f = cond (f i) (i ∷ passing n (suc i) f) (passing n (suc i) 
 -- the numbers below n that are in a list, each once and ascending
 unfoldable pub ascending : (n : ℕ) → (xs : List ℕ) → List ℕ
 ascending n xs = passing n 0 (is-in xs)
+
+-- each entry is below every later one
+unfoldable pub Strictly-ascending : List ℕ → Type 0
+Strictly-ascending xs = Rising (λ x. x) xs

@@ -1,16 +1,15 @@
--- Of whole calls: a ring, and the ring started r bytes later, searched and converted (`Searches-rotated`, `Status-rotated`).
+-- Of whole calls: a ring, and the ring started r bytes later, searched, converted and priced
+-- (`Searches-rotated`, `Status-rotated`, `Prices-rotated`).
 -- A call that is taken answers and leaves what the definitions give, and what is promised of these does the rest; its status goes by lengths alone.
 use mathlib.Core.Path.{refl, sym, _∙_}
-use Rattle.answers.proofs.Answered.{status-answered}
-use Rattle.matcher.specs.Search.{search-done}
-use Rattle.converter.proofs.Paired.{search-nonempty, frames-by, ones-by, every-search-exact}
-use Rattle.converter.specs.Convert.{convert-done}
-use Rattle.converter.specs.Paired.{Every-search-exact}
-use Rattle.rotated_jobs.proofs.Frames.{frames-rotated}
+use Rattle.converter.proofs.Paired.{search-nonempty, frames-by, ones-by, every-search-exact, status-by-lengths}
+use Rattle.converter.specs.Paired.{Every-search-exact, Status-by-lengths}
+use Rattle.price.proofs.Calls.{price-nonempty, pence-by}
+use Rattle.rotated_jobs.proofs.Frames.{frames-rotated, cost-rotated}
 use Rattle.rotated_jobs.proofs.Occurrences.{occurrences-rotated, number-rotated, bound-rotated}
 use Rattle.rotated_jobs.proofs.Rotated.{length-rotated, ones-rotated}
-use Rattle.rotated_jobs.specs.Calls.{Searches-rotated, Status-rotated}
-use Rattle.rotated_jobs.specs.Promises.{rotated, Occurrences-rotated, Number-rotated, Frames-rotated, Ones-rotated, Bound-rotated}
+use Rattle.rotated_jobs.specs.Calls.{Searches-rotated, Status-rotated, Prices-rotated}
+use Rattle.rotated_jobs.specs.Promises.{rotated, Occurrences-rotated, Number-rotated, Frames-rotated, Ones-rotated, Cost-rotated, Bound-rotated}
 
 pub searches-rotated : Searches-rotated
 unfolding Searches-rotated Every-search-exact Occurrences-rotated Number-rotated Frames-rotated Ones-rotated Bound-rotated
@@ -31,13 +30,11 @@ searches-rotated r q w t h c d s e s' e' =
     }
 
 pub status-rotated : Status-rotated
-unfolding Status-rotated
+unfolding Status-rotated Status-by-lengths
 status-rotated r q w t c d same =
-    let u = rotated r t in (
-      λ h h'.
-          status-answered _ (search-done w u) (h' .answer) refl
-          ∙ rw (same .tables, same .found, length-rotated) (sym (status-answered _ (search-done w t) (h .answer) refl)),
-      λ h h'.
-          status-answered _ (convert-done w u) (h' .answer) refl
-          ∙ rw (same .tables, same .found, same .frames, length-rotated) (sym (status-answered _ (convert-done w t) (h .answer) refl)),
-    )
+    let (search, convert) = status-by-lengths q q w w t (rotated r t) c d refl (length-rotated r t) same in
+    (search, convert (λ h. h, λ h. h))
+
+pub prices-rotated : Prices-rotated
+unfolding Prices-rotated Cost-rotated
+prices-rotated r q w t c d p p' = rw (pence-by p, pence-by p') (cost-rotated r q w t (price-nonempty p))

@@ -1,20 +1,30 @@
--- The frames of a ring started r bytes later are its frames started r later (`Frames-rotated`).
+-- The frames of a ring started r bytes later are its frames started r later (`Frames-rotated`); so it
+-- costs the same (`Cost-rotated`), since its bytes are summed up in another order, and as many frames are holds.
 -- Frame by frame: a frame is a hold just where the frame r further on around the ring was, and else it has that byte.
 use mathlib.Core.List.{List}
+use mathlib.Core.Logic.{⊎-elim}
 use mathlib.Core.Path.{_≡_, sym, _∙_}
 use Prim.Native.Nat.{ℕ, _+_, _%_, _≤_, _<_}
 use native.Mathlib.Nat.{mod-lt}
 use native.Mathlib.Omega.{arith}
-use lib.ListN.{length}
-use lib.Seq.{ext-getD}
-use Rattle.ring.proofs.Back.{back-inside, back-moved}
+use lib.Dec.{eqb}
+use lib.ListN.{length, drop-of-length-le}
+use lib.Seq.{take-all, ext-getD}
+use Rattle.tables.proofs.Cases.{le-or-lt}
+use Rattle.tables.specs.Sets.{byte}
+use Rattle.ring.proofs.Ascending.{passing-ascends}
+use Rattle.ring.proofs.Back.{back-inside, back-moved, back-inverse}
+use Rattle.ring.proofs.Listed.{passing-moved, ascending-count}
 use Rattle.ring.specs.Ring.{back}
 use Rattle.frames.proofs.Holds.{length-frames, holds-right, held, held-at}
-use Rattle.frames.specs.Frames.{frames}
-use Rattle.frames.specs.Promises.{Holds-right}
+use Rattle.frames.specs.Frames.{hold, frames}
+use Rattle.frames.specs.Promises.{holds-of, Holds-right}
+use Rattle.tariff.proofs.Cost.{cost-held}
+use Rattle.tariff.specs.Sums.{bytes-total, cost-by-holds}
+use Rattle.tariff.specs.Tariff.{byte-price}
 use Rattle.rotated_jobs.proofs.Occurrences.{occurs-rotated}
-use Rattle.rotated_jobs.proofs.Rotated.{length-rotated, rotated-entry}
-use Rattle.rotated_jobs.specs.Promises.{rotated, Frames-rotated}
+use Rattle.rotated_jobs.proofs.Rotated.{length-rotated, rotated-entry, sum-rotated}
+use Rattle.rotated_jobs.specs.Promises.{rotated, Frames-rotated, Cost-rotated}
 
 -- frame i of the ring started later is held just where the one r further on was
 held-rotated :
@@ -45,3 +55,29 @@ frames-rotated r q w t some h =
       size',
       holds-right q i' w t (mod-lt (i + r) (omega arith)),
     ))
+
+-- as many of the frames are holds
+holds-rotated : (r : ℕ) (gs : List ℕ) → r ≤ length gs → length (holds-of (rotated r gs)) ≡ length (holds-of gs)
+unfolding holds-of
+holds-rotated r gs h =
+    let v = back-inverse (length gs) r in
+    let moved = passing-moved v (λ i. eqb (byte (rotated r gs) i) hold) (λ i. eqb (byte gs i) hold) (λ i l. rw (rotated-entry r gs h i l)) in
+    rw (length-rotated r gs, moved) (ascending-count v 0 (holds-of gs) (passing-ascends _ 0 (length gs) _ (omega arith)))
+
+pub cost-rotated : Cost-rotated
+unfolding Cost-rotated Frames-rotated cost-by-holds bytes-total rotated
+cost-rotated r q w t some =
+    let gs = frames q w t in
+    let size = length-frames q w t in
+    ⊎-elim
+    (λ past. rw (drop-of-length-le t past, take-all r t past))
+    (λ inside.
+    rw (
+      frames-rotated r q w t some (omega arith),
+      cost-held (rotated r t) (rotated r gs) (length-rotated r gs ∙ size ∙ sym (length-rotated r t)),
+      cost-held t gs size,
+      holds-rotated r gs (omega arith),
+      sum-rotated byte-price r t,
+      length-rotated r t,
+    ))
+    (le-or-lt (length t) r)

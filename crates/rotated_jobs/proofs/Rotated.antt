@@ -6,13 +6,13 @@ use mathlib.Core.Path.{_≡_, sym, _∙_, ap}
 use Prim.Native.Nat.{ℕ, _+_, _-_, _%_, _≤_, _<_}
 use native.Mathlib.Nat.{mod-lt, mod-eq-of-lt, mod-add-mod, add-mod-right}
 use native.Mathlib.Omega.{arith}
+use lib.Count.{ones}
 use lib.ListN.{length, take, drop, length-append, length-drop, take-append-drop, List·getD-append, List·getD-eq-default}
 use lib.Seq.{getD-append-add, getD-take, getD-drop}
 use Rattle.tables.proofs.Cases.{eq-or-ne, le-or-lt}
 use Rattle.tables.specs.Sets.{byte}
 use Rattle.steps.proofs.Text.{shown-at}
-use Rattle.ones.proofs.Sums.{ones-append}
-use Rattle.ones.specs.Ones.{ones-of}
+use Rattle.tariff.proofs.Sums.{sum-over, sum-append, ones-summed}
 use Rattle.rotated_jobs.specs.Promises.{rotated, Shown-rotated, Ones-rotated}
 
 pub length-rotated : (r : ℕ) (t : List ℕ) → length (rotated r t) ≡ length t
@@ -50,7 +50,12 @@ shown-rotated r t h x =
     (eq-or-ne n 0)
     ∙ sym (shown-at t (x + r))
 
+-- a sum over the entries is the same
+pub sum-rotated : (f : ℕ → ℕ) (r : ℕ) (t : List ℕ) → sum-over f (rotated r t) ≡ sum-over f t
+unfolding rotated
+sum-rotated f r t =
+    omega (arith, sum-append f (drop r t) (take r t), sum-append f (take r t) (drop r t), ap (sum-over f) (take-append-drop r t))
+
 pub ones-rotated : Ones-rotated
-unfolding Ones-rotated rotated
-ones-rotated r t =
-    omega (arith, ones-append (drop r t) (take r t), ones-append (take r t) (drop r t), ap ones-of (take-append-drop r t))
+unfolding Ones-rotated
+ones-rotated r t = ones-summed (rotated r t) ∙ sum-rotated ones r t ∙ sym (ones-summed t)

@@ -1,5 +1,6 @@
--- What is promised of a ring that is started r bytes (cards) later (document 02, "Lacing at another card"): its occurrences (finds), its frames, its
--- ones (holes) and its bound. Each is a type, and its proof is in proofs/. These are definitions.
+-- What is promised of a ring that is started r bytes (cards) later (document 02, "Lacing at another
+-- card"): its occurrences (finds), its frames, its ones (holes), its cost and its bound. Each is a
+-- type, and its proof is in proofs/. These are definitions.
 use mathlib.Core.List.{List, _++_, map}
 use mathlib.Core.Path.{_≡_}
 use Prim.Native.Nat.{ℕ, _+_, _≤_}
@@ -11,6 +12,7 @@ use Rattle.steps.specs.Text.{shown}
 use Rattle.ring.specs.Ring.{back, ascending}
 use Rattle.ones.specs.Ones.{ones-of}
 use Rattle.frames.specs.Frames.{frames}
+use Rattle.price.specs.Price.{job-cost}
 
 -- a ring started r entries later: the entries from r on, then those before
 unfoldable pub rotated : (r : ℕ) → (t : List ℕ) → List ℕ
@@ -20,7 +22,7 @@ rotated r t = drop r t ++ take r t
 unfoldable pub rotated-positions : (n r : ℕ) → (positions : List ℕ) → List ℕ
 rotated-positions n r bs = ascending n (map (λ b. back n b r) bs)
 
--- the ring started r bytes later shows at each position what the ring shows r further on; r is below n, or n, which gives the ring itself
+-- at position x the ring started r bytes later, r at most n, shows what the ring shows at x + r
 unfoldable pub Shown-rotated : Type 0
 Shown-rotated = (r : ℕ) (t : List ℕ) → r ≤ length t → (x : ℕ) → shown (rotated r t) x ≡ shown t (x + r)
 
@@ -45,6 +47,10 @@ Frames-rotated =
 -- it has as many ones (holes)
 unfoldable pub Ones-rotated : Type 0
 Ones-rotated = (r : ℕ) (t : List ℕ) → ones-of (rotated r t) ≡ ones-of t
+
+-- it costs the same, for any r
+unfoldable pub Cost-rotated : Type 0
+Cost-rotated = (r q : ℕ) (w t : List ℕ) → 1 ≤ length w → job-cost q w (rotated r t) ≡ job-cost q w t
 
 -- the bound is the same number from each start, and the count of comparisons (looks), which may differ, keeps it
 unfoldable pub Bound-rotated : Type 0

@@ -193,7 +193,8 @@ pub extern "C" fn explain(
     explain::explain(position, pattern, text, order, delta2, delta1, delta3)
 }
 
-// Writes what SEEK prints for the job of a file.
+// Writes what SEEK prints for the job of a file. It keeps the job, its tables and its buffers on
+// the stack: the thread that calls it needs 192 KiB.
 #[no_mangle]
 pub extern "C" fn seek_report(file: &[u8], out: &mut [u8]) -> ReportAnswer
     ensures { λ r. ⌜ Report-outcome (now (file .entry)) (now (out .entry)) (now (out .exit)) r ⌝ }

@@ -1,25 +1,28 @@
--- The occurrences that the steps list are exactly those by meaning (`Occurrences-right`), over any text.
+-- The steps list exactly the occurrences (`Occurrences-right`), and which are repeats (`Known`).
 -- A step tells whether its own position is one and passes over none; by induction on the fuel.
-use mathlib.Core.Bool.{Bool, true, false, cond, and-eq-true-iff}
-use mathlib.Core.List.{List, [], _∷_}
-use mathlib.Core.Logic.{⊎-elim}
+use mathlib.Core.Bool.{Bool, true, false, cond, true≢false, and-eq-true-iff}
+use mathlib.Core.List.{List, [], _∷_, _++_}
+use mathlib.Core.Logic.{_⊎_, _↔_, inl, inr, ⊎-elim}
 use mathlib.Core.Path.{_≡_, refl, sym, _∙_}
-use Prim.Native.Nat.{ℕ, zero, suc, _+_, _-_, _≤_, _<_}
+use Prim.Native.Nat.{ℕ, zero, suc, _+_, _*_, _-_, _≤_, _<_}
 use native.Mathlib.Nat.{eq-or-lt-of-le, zero-add, add-zero, suc-add}
 use native.Mathlib.Omega.{arith}
 use borrow.Author.Tests.{eqb-true, leb-true, le-leb, lt-leb, eq-eqb, ne-eqb}
 use lib.Dec.{leb, eqb}
 use lib.ListN.{length}
-use Rattle.tables.proofs.Cases.{true-or-false, le-or-lt}
+use Rattle.tables.proofs.Cases.{true-or-false, le-or-lt, clash}
 use Rattle.tables.proofs.Least.{all-each, each-all}
+use Rattle.tables.proofs.RepeatRow.{period-positive, repeats-holds, repeats-is}
 use Rattle.tables.specs.Sets.{byte}
+use Rattle.tables.specs.Tables.{period, repeats}
+use Rattle.steps.proofs.Outcome.{occurrence-shift}
 use Rattle.steps.proofs.Rows.{row-below}
 use Rattle.steps.proofs.Shift.{Carried, all-agree, carried-on, carried-first, passed-over}
-use Rattle.steps.proofs.Steps.{Agrees, agreeing-ends, step-listed, run-over, run-step}
+use Rattle.steps.proofs.Steps.{Agrees, agreeing-ends, step-listed, step-repeat, run-over, run-step}
 use Rattle.steps.proofs.Text.{span-few}
 use Rattle.steps.specs.Occurrences.{occurs, occurrences-from, all-occurrences, occurrences}
 use Rattle.steps.specs.Promises.{Occurrences-right, Spoilt}
-use Rattle.steps.specs.Steps.{Comparison, agreeing, row, step, repeat-after, alignments-from, alignments, listed}
+use Rattle.steps.specs.Steps.{Comparison, agreeing, row, step, repeat-after, alignments-from, alignments, compared, listed}
 use Rattle.steps.specs.Text.{shown, span}
 
 module _ (f : ℕ → ℕ) (N : ℕ) (w : List ℕ) where
@@ -82,6 +85,13 @@ module _ (f : ℕ → ℕ) (N : ℕ) (w : List ℕ) where
       let there : suc b + k ≡ b + suc k = omega arith in
       rw (suc-add, ← there, skip k n (suc b) (λ j l u. miss j l (omega arith)))
 
+  -- what is known of the step at b: the occurrences before b are p before it or further, and it is
+  -- a repeat just where m is at least 3 × p and one is p before it
+  pub record Known (made : List Comparison) (b s : ℕ) (repeat : Bool) : Type 0 where
+    pub carried : Carried f w made b s repeat
+    pub apart : (c : ℕ) → c < b → occurs f N w c ≡ true → c + period w ≤ b
+    pub tells : (repeat ≡ true) ↔ ((3 * period w ≤ length w) × (period w ≤ b) × (occurs f N w (b - period w) ≡ true))
+
   module _ (nonempty : 1 ≤ length w) where
     -- a step finds all agreeing just where its position is an occurrence
     pub step-tells :
@@ -95,6 +105,14 @@ module _ (f : ℕ → ℕ) (N : ℕ) (w : List ℕ) where
         (λ u. ne-eqb i _ (omega arith) ∙ sym (occurs-not b (λ all. ends .differ u (all _ (row-below w repeat nonempty i u)))))
         (eq-or-lt-of-le (ends .within))
 
+    -- a position that it passes over is none
+    passed-not :
+        (made : List Comparison) (b s : ℕ) (repeat : Bool) → Carried f w made b s repeat →
+        (c : ℕ) → b < c → c < b + step f w b s repeat .shift → occurs f N w c ≡ false
+    passed-not made b s repeat known c l u =
+        let there : b + (c - b) ≡ c = omega arith in
+        spoilt-not c (rw there at (passed-over f w made b s repeat nonempty known (c - b) (omega arith) (omega arith)))
+
     listed-right :
         (fuel : ℕ) (made : List Comparison) (b s : ℕ) (repeat : Bool) (n : ℕ) → N < b + fuel → N < b + n → Carried f w made b s repeat →
         listed (alignments-from fuel f N w b s repeat) ≡ occurrences-from n b f N w
@@ -105,17 +123,51 @@ module _ (f : ℕ → ℕ) (N : ℕ) (w : List ℕ) where
         let k = here .shift in
         let kept = carried-on f w made b s repeat nonempty known in
         let later = listed-right fuel _ (b + k) k (repeat-after w here) (n - k) (omega arith) (omega arith) kept in
-        let passed = passed-over f w made b s repeat nonempty known in
-        let none : (j : ℕ) → b < j → j < b + k → occurs f N w j ≡ false = λ j i h.
-        let there : b + (j - b) ≡ j = omega arith in
-        spoilt-not j (rw there at (passed (j - b) (omega arith) (omega arith))) in
         ⊎-elim
         (λ v.
         let whole : k + (n - k) ≡ n = omega arith in
-        let from-here = rw whole at (next k (n - k) b (kept .positive) none) in
+        let from-here = rw whole at (next k (n - k) b (kept .positive) (passed-not made b s repeat known)) in
         rw (run-step f w b s repeat fuel N v, step-listed f w b s repeat, step-tells made b s repeat known v, later) (sym from-here))
         (λ v. rw (run-over f w b s repeat (suc fuel) N v) (sym (none-over n b v)))
         (le-or-lt (b + length w) N)
+
+    -- at the first step nothing is before, and a step keeps what is known
+    pub known-first : Known [] 0 (length w) false
+    known-first =
+        record {
+          carried = carried-first f w 0 nonempty;
+          apart = λ c l e. absurd (omega arith);
+          tells = (λ e. absurd (true≢false (sym e)), λ (long, l, e). absurd (omega (arith, period-positive w)));
+        }
+
+    pub known-on :
+        (made : List Comparison) (b s : ℕ) (repeat : Bool) → Known made b s repeat → b + length w ≤ N → let here = step f w b s repeat in
+        Known (made ++ compared here) (b + here .shift) (here .shift) (repeat-after w here)
+    known-on made b s repeat known inside =
+        let k = step f w b s repeat .shift in
+        let next = carried-on f w made b s repeat nonempty (known .carried) in
+        let told = step-tells made b s repeat (known .carried) inside in
+        let by-period : occurs f N w b ≡ true → k ≡ period w = λ e. occurrence-shift f w b s nonempty repeat (eqb-true _ _ (told ∙ e)) in
+        let earlier : (c : ℕ) → c < b + k → occurs f N w c ≡ true → (c + period w ≤ b) ⊎ (b ≡ c) = λ c l e.
+        ⊎-elim
+        (λ u. ⊎-elim inr (λ v. absurd (clash _ e (passed-not made b s repeat (known .carried) c v l))) (eq-or-lt-of-le u))
+        (λ u. inl (known .apart c u e))
+        (le-or-lt b c) in
+        record {
+          carried = next;
+          apart = λ c l e. ⊎-elim (λ u. omega arith) (λ q. omega (arith, by-period (rw q e))) (earlier c l e);
+          tells = rw (step-repeat f w b s repeat, told) (
+            λ e.
+                let (occurring, repeating) = and-eq-true-iff (occurs f N w b) (repeats w) .0 e in
+                let there : b ≡ b + k - period w = omega (arith, by-period occurring) in
+                (repeats-holds w repeating, omega (arith, by-period occurring), rw (← there) occurring),
+            λ (long, l, e).
+                ⊎-elim
+                (λ u. absurd (omega arith))
+                (λ q. and-eq-true-iff (occurs f N w b) (repeats w) .1 (rw q e, repeats-is w long))
+                (earlier (b + k - period w) (omega (arith, period-positive w)) e),
+          );
+        }
 
 pub occurrences-right : Occurrences-right
 unfolding Occurrences-right alignments all-occurrences

@@ -18,4 +18,4 @@ passed-spoilt f N w h before a later e c l u =
     let u' = rw (here .same, at) at u in
     let there : here .b + (c - here .b) ≡ c = omega arith in
     rw (comparisons-append before (a ∷ []), comparisons-one, here .same)
-    (rw there at (passed-over f w _ (here .b) (here .s) (here .repeat) h (here .known) (c - here .b) (omega arith) (omega arith)))
+    (rw there at (passed-over f w _ (here .b) (here .s) (here .repeat) h (here .known .carried) (c - here .b) (omega arith) (omega arith)))

@@ -1,25 +1,18 @@
--- An alignment of a run, by those before it: it is a step, to which is carried what they have shown (`by-step`), and it stands where they end (`Follow`).
--- By induction on the fuel, and on the alignments.
+-- An alignment of a run is a step, of which what the steps before it have shown is known
+-- (`by-step`), and it stands where they end (`Follow`). By induction on the fuel and the alignments.
 use mathlib.Core.Bool.{Bool, false}
 use mathlib.Core.List.{List, [], _∷_, _++_, append-assoc, append-nil}
 use mathlib.Core.Logic.{⊎-elim}
 use mathlib.Core.Path.{_≡_, refl, sym, _∙_, ap}
 use Prim.Native.Nat.{ℕ, zero, suc, _+_, _≤_, _<_}
 use native.Mathlib.Omega.{arith}
-use lib.ListN.{length, getD, drop, length-append}
+use lib.ListN.{length, length-append}
 use Rattle.tables.proofs.Cases.{le-or-lt}
 use Rattle.steps.proofs.Fuel.{shift-positive, fuel-enough}
-use Rattle.steps.proofs.Shift.{Carried, carried-on, carried-first}
-use Rattle.steps.proofs.Steps.{step-position, run-none, run-over, run-step}
+use Rattle.steps.proofs.Occurrences.{Known, known-on, known-first}
+use Rattle.steps.proofs.Steps.{step-position, run-over, run-step}
 use Rattle.steps.specs.Promises.{Fuel-enough, ends-at}
 use Rattle.steps.specs.Steps.{Comparison, Alignment, step, repeat-after, alignments-from, alignments, compared, comparisons-of}
-
--- the first alignment of a list, and those after it
-head-same : (x y : Alignment) (xs ys : List Alignment) → x ∷ xs ≡ y ∷ ys → x ≡ y
-head-same x y xs ys e = ap (λ (l : List Alignment). getD l 0 x) e
-
-tail-same : (x y : Alignment) (xs ys : List Alignment) → x ∷ xs ≡ y ∷ ys → xs ≡ ys
-tail-same x y xs ys e = ap (drop 1) e
 
 none-not : (before later : List Alignment) (a : Alignment) → [] ≡ before ++ (a ∷ later) → ⊥
 none-not before later a e = let size = ap length e ∙ length-append before (a ∷ later) in omega arith
@@ -41,14 +34,14 @@ pub comparisons-split :
 comparisons-split before a later =
     ap comparisons-of (sym (append-assoc before (a ∷ []) later)) ∙ comparisons-append (before ++ (a ∷ [])) later
 
--- an alignment before which these comparisons were made is a step inside the text, to which is carried what they have shown
+-- an alignment before which these comparisons were made is a step inside the text, of which what they have shown is known
 pub record By-step (f : ℕ → ℕ) (N : ℕ) (w : List ℕ) (made : List Comparison) (a : Alignment) : Type 0 where
   pub b : ℕ
   pub s : ℕ
   pub repeat : Bool
   pub same : a ≡ step f w b s repeat
   pub inside : b + length w ≤ N
-  pub known : Carried f w made b s repeat
+  pub known : Known f N w made b s repeat
 
 module _ (f : ℕ → ℕ) (N : ℕ) (w : List ℕ) (nonempty : 1 ≤ length w) where
   -- of a run, before which these comparisons were made
@@ -59,29 +52,27 @@ module _ (f : ℕ → ℕ) (N : ℕ) (w : List ℕ) (nonempty : 1 ≤ length w) 
 
   -- by a step and the run after it
   by-steps-on :
-      (made : List Comparison) (b s : ℕ) (repeat : Bool) → Carried f w made b s repeat → b + length w ≤ N → (rest : List Alignment) →
+      (made : List Comparison) (b s : ℕ) (repeat : Bool) → Known f N w made b s repeat → b + length w ≤ N → (rest : List Alignment) →
       By-steps (made ++ compared (step f w b s repeat)) rest → By-steps made (step f w b s repeat ∷ rest)
   unfolding comparisons-of
   by-steps-on made b s repeat known l rest more [] a later e =
-      let same : step f w b s repeat ≡ a = head-same _ a rest later e in
-      rw append-nil (record { b = b; s = s; repeat = repeat; same = sym same; inside = l; known = known })
+      rw append-nil (record { b = b; s = s; repeat = repeat; same = cc; inside = l; known = known })
   by-steps-on made b s repeat known l rest more (x ∷ before) a later e =
-      let here = step f w b s repeat in
-      let same : here ≡ x = head-same here x rest (before ++ (a ∷ later)) e in
-      rw (← same, ← append-assoc) (more before a later (tail-same here x rest (before ++ (a ∷ later)) e))
+      let same : step f w b s repeat ≡ x = cc in
+      rw (← same, ← append-assoc) (more before a later (cc))
 
   by-steps-from :
-      (fuel : ℕ) (made : List Comparison) (b s : ℕ) (repeat : Bool) → Carried f w made b s repeat →
+      (fuel : ℕ) (made : List Comparison) (b s : ℕ) (repeat : Bool) → Known f N w made b s repeat →
       By-steps made (alignments-from fuel f N w b s repeat)
-  by-steps-from zero made b s repeat known before a later e = absurd (none-not before later a (sym (run-none f w b s repeat N) ∙ e))
+  unfolding alignments-from
+  by-steps-from zero made b s repeat known before a later e = absurd (none-not before later a e)
   by-steps-from (suc fuel) made b s repeat known before a later e =
       let here = step f w b s repeat in
-      let kept = carried-on f w made b s repeat nonempty known in
       let rest = alignments-from fuel f N w (b + here .shift) (here .shift) (repeat-after w here) in
       ⊎-elim
       (λ v.
       by-steps-on made b s repeat known v rest
-      (by-steps-from fuel (made ++ compared here) (b + here .shift) (here .shift) (repeat-after w here) kept) before a later
+      (by-steps-from fuel _ _ _ _ (known-on f N w nonempty made b s repeat known v)) before a later
       (sym (run-step f w b s repeat fuel N v) ∙ e))
       (λ v. absurd (none-not before later a (sym (run-over f w b s repeat (suc fuel) N v) ∙ e)))
       (le-or-lt (b + length w) N)
@@ -91,7 +82,7 @@ module _ (f : ℕ → ℕ) (N : ℕ) (w : List ℕ) (nonempty : 1 ≤ length w) 
       (before : List Alignment) (a : Alignment) (later : List Alignment) → alignments f N w ≡ before ++ (a ∷ later) →
       By-step f N w (comparisons-of before) a
   unfolding alignments
-  by-step = by-steps-from (suc N) [] 0 (length w) false (carried-first f w 0 nonempty)
+  by-step = by-steps-from (suc N) [] 0 (length w) false (known-first f N w nonempty)
 
 -- alignments from b on: each stands where the one before it ends, and shifts on
 unfoldable pub Follow : (b : ℕ) → List Alignment → Type 0

@@ -150,11 +150,6 @@ module _ (f : ℕ → ℕ) (w : List ℕ) (b s : ℕ) (repeat : Bool) where
   unfolding step
   step-position = refl
 
-  -- a run without fuel has no alignments
-  pub run-none : (N : ℕ) → alignments-from zero f N w b s repeat ≡ []
-  unfolding alignments-from
-  run-none N = refl
-
   -- a run ends past the text's end, and goes on by a step before it
   pub run-over : (fuel N : ℕ) → N < b + length w → alignments-from fuel f N w b s repeat ≡ []
   unfolding alignments-from

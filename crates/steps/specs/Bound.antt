@@ -8,11 +8,12 @@ use Rattle.tables.specs.Tables.{period}
 use Rattle.steps.specs.Occurrences.{occurrences}
 use Rattle.steps.specs.Text.{span}
 
--- for m, n positions shown, h finds and the period p: 0 for n below m; 2 × n - m for m at least 3 × p (document 02, "Long repeats"); else
--- 2 × n - m + h × (the larger of 0 and m - 2 × p)
-unfoldable pub bound : (m n h p : ℕ) → ℕ
-bound m n h p = cond (ltb n m) 0 (cond (leb (3 * p) m) (2 * n - m) (2 * n - m + h * (m - 2 * p)))
+-- for m, N positions shown, h finds and the period p: 0 for N below m; 2 × N - m for m at least
+-- 3 × p (document 02, "Long repeats"); else 2 × N - m + h × (the larger of 0 and m - 2 × p)
+unfoldable pub bound : (m N h p : ℕ) → ℕ
+bound m N h p = cond (ltb N m) 0 (cond (leb (3 * p) m) (2 * N - m) (2 * N - m + h * (m - 2 * p)))
 
--- of a search for w in the text (chain) t: its span for n (document 02, "Chains are laced into a ring")
+-- of a search for w in the text (chain) t: N is its span, n + m - 1 (document 02, "Chains are laced
+-- into a ring")
 abbrev pub search-bound : (w t : List ℕ) → ℕ
 search-bound w t = bound (length w) (span w t) (length (occurrences w t)) (period w)

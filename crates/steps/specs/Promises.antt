@@ -4,13 +4,13 @@ use mathlib.Core.Bool.{Bool}
 use mathlib.Core.List.{List, [], _∷_, _++_}
 use mathlib.Core.Logic.{_≢_, _⊎_}
 use mathlib.Core.Path.{_≡_}
-use Prim.Native.Nat.{ℕ, _+_, _≤_, _<_}
+use Prim.Native.Nat.{ℕ, _+_, _-_, _≤_, _<_}
 use lib.ListN.{length}
 use Rattle.tables.specs.Sets.{byte}
 use Rattle.tables.specs.Tables.{period}
-use Rattle.steps.specs.Bound.{bound}
-use Rattle.steps.specs.Occurrences.{all-occurrences}
-use Rattle.steps.specs.Steps.{Alignment, Comparison, alignments-from, alignments, comparisons-of, listed}
+use Rattle.steps.specs.Bound.{bound, search-bound}
+use Rattle.steps.specs.Occurrences.{all-occurrences, occurrences}
+use Rattle.steps.specs.Steps.{Alignment, Comparison, alignments-from, alignments, comparisons-of, comparisons, listed}
 
 -- where the search stands after these alignments, begun at b
 unfoldable pub ends-at : (b : ℕ) → List Alignment → ℕ
@@ -65,3 +65,22 @@ unfoldable pub Few-comparisons : Type 0
 Few-comparisons =
     (f : ℕ → ℕ) (N : ℕ) (w : List ℕ) → 1 ≤ length w →
     length (comparisons-of (alignments f N w)) ≤ bound (length w) N (length (all-occurrences f N w)) (period w)
+
+-- an empty text (chain) has no occurrence, no comparison and the bound 0. An empty pattern would
+-- occur in it once, at 0
+unfoldable pub Empty-ring : Type 0
+Empty-ring = (w : List ℕ) → 1 ≤ length w → (occurrences w [] ≡ []) × (length (comparisons w []) ≡ 0) × (search-bound w [] ≡ 0)
+
+-- each of these comparisons has its pattern position below m and its text position below N
+unfoldable pub All-inside : (m N : ℕ) → List Comparison → Type 0
+All-inside m N [] = Unit {0}
+All-inside m N (c ∷ later) = (c .pattern-position < m) × (c .text-position < N) × All-inside m N later
+
+-- every comparison of a search is inside the pattern, and inside what is shown
+unfoldable pub Looks-inside : Type 0
+Looks-inside =
+    (f : ℕ → ℕ) (N : ℕ) (w : List ℕ) → 1 ≤ length w → All-inside (length w) N (comparisons-of (alignments f N w))
+
+-- in a ring of n bytes no text position is above n + m - 2
+unfoldable pub Looks-in-ring : Type 0
+Looks-in-ring = (w t : List ℕ) → 1 ≤ length w → All-inside (length w) (length t + length w - 1) (comparisons w t)

@@ -14,5 +14,6 @@ pub mod RepeatRow
 pub mod RepeatShift
 pub mod RepeatMinima
 pub mod LongShifts
+pub mod Right
 pub mod Stored
 pub mod Rooms

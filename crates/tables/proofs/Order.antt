@@ -1,22 +1,22 @@
 -- The order has each position once, by rising rank, and what stands before an entry; and the size of the order as it is stored.
 -- The order is a run of ranks: m - 1 has rank 0, a position of the second group its k_min, and one of the third m + 1 more than itself.
 use mathlib.Core.Bool.{Bool, true, false, _&&_, cond, and-eq-true-iff}
-use mathlib.Core.List.{List}
+use mathlib.Core.List.{List, _++_}
 use mathlib.Core.Logic.{_≢_, ⊎-elim}
-use mathlib.Core.Path.{_≡_, refl, sym, _∙_}
+use mathlib.Core.Path.{_≡_, refl, sym, _∙_, ap}
 use Prim.Native.Nat.{ℕ, zero, suc, _+_, _-_, _≤_, _<_, min}
 use native.Mathlib.Nat.{eq-or-lt-of-le}
 use native.Mathlib.Omega.{arith}
 use borrow.Author.Tests.{ltb-true, eqb-true, eqb-false, lt-ltb, le-leb, lt-leb, eq-eqb, ne-eqb}
 use lib.Dec.{ltb, leb, eqb}
 use lib.ListN.{length, getD, length-append, length-map}
-use Rattle.tables.proofs.Cases.{le-or-lt, clash}
+use Rattle.tables.proofs.Cases.{clash}
 use Rattle.tables.proofs.KMin.{k-min-cases, k-min-unique, no-k-min-unique}
 use Rattle.tables.proofs.Periods.{period-facts, k-min-below-period}
-use Rattle.tables.proofs.Runs.{Run, end, entry, run-append, run-if, run-never, run-once, run-rises, run-at}
-use Rattle.tables.proofs.Times.{Stands, times-stands, stands-twice, length-once}
+use Rattle.tables.proofs.Runs.{Run, end, entry, run-append, run-if, run-never, run-once, run-entry, run-rises}
+use Rattle.tables.proofs.Times.{Stands, times-stands, length-once}
 use Rattle.tables.specs.Facts.{K-min, No-k-min}
-use Rattle.tables.specs.Promises.{times, Order-whole}
+use Rattle.tables.specs.Promises.{times, Order-whole, Rising, By-rising-k-min}
 use Rattle.tables.specs.Tables.{h-min, k-min, period, second-group-from, second-group, third-group-from, third-group, order, stored-order}
 
 -- v is the rank of position h in the order: m - 1 comes first, then the second group by rising k_min, then the third by rising h
@@ -104,10 +104,12 @@ third-entries : (w : List ℕ) → 1 ≤ length w → Run (Rank w) (ranks w) (su
 unfolding third-group
 third-entries w b = third-run w (length w - 1) 0 (suc (length w)) (omega arith) (omega arith)
 
+both-entries : (w : List ℕ) → 1 ≤ length w → Run (Rank w) (ranks w) 1 (second-group w ++ third-group w)
+both-entries w b = run-append (omega arith) (second-entries w) (third-entries w b)
+
 order-entries : (w : List ℕ) → 1 ≤ length w → Run (Rank w) (ranks w) 0 (order w)
 unfolding order
-order-entries w b =
-    entry (length w - 1) (last refl (omega arith)) (omega arith) (run-append (omega arith) (second-entries w) (third-entries w b))
+order-entries w b = entry (length w - 1) (last refl (omega arith)) (omega arith) (both-entries w b)
 
 order-once : (w : List ℕ) (i : ℕ) → i < length w → times i (order w) ≡ 1
 order-once w i u =
@@ -136,34 +138,51 @@ order-length w b = order-whole w b .0
 pub order-stands : (w : List ℕ) → 1 ≤ length w → (i : ℕ) → i < length w → Stands (order w) (length (order w)) i
 order-stands w b i u = times-stands i (order w) (omega (arith, order-once w i u))
 
--- and no two entries are the same
+-- along it the ranks rise
+order-rises : (w : List ℕ) → 1 ≤ length w → Rising (rank-of w) (order w)
+order-rises w b i j c l =
+    let (u, v, from, rises, past, here, there) = run-rises (order-entries w b) i j c l in
+    omega (arith, rank-is w here, rank-is w there)
+
+-- so no two entries are the same
 pub order-distinct : (w : List ℕ) → 1 ≤ length w → (x y : ℕ) → x < y → y < length w → getD (order w) x 0 ≢ getD (order w) y 0
-order-distinct w b x y l u e =
-    let i = getD (order w) y 0 in
-    let whole = order-length w b in
-    let twice = stands-twice i (order w) x y l (omega arith) e refl in
-    ⊎-elim
-    (λ past. omega (arith, run-never i (order-entries w b) (λ v a r. omega (arith, rank-below w r))))
-    (λ in-pattern. omega (arith, order-once w i in-pattern))
-    (le-or-lt (length w) i)
+order-distinct w b x y l u e = omega (arith, order-rises w b x y l (omega (arith, order-length w b)), ap (rank-of w) e)
+
+-- the rank of a position of the second group is its k_min, and of one of the third m + 1 + h
+group-rank :
+    (w : List ℕ) {v h : ℕ} → 1 ≤ v → Rank w v h →
+    (h < length w - 1) × (v ≤ length w → k-min w h ≡ v) × (length w < v → (k-min w h ≡ 0) × (v ≡ suc (length w) + h))
+group-rank w l (last z e) = absurd (omega arith)
+group-rank w l (second b r) = (omega arith, λ c. k-min-unique w _ _ r (omega arith), λ c. absurd (omega (arith, r .within)))
+group-rank w l (third z b n) = (omega arith, λ c. absurd (omega arith), λ c. (no-k-min-unique w _ n (omega arith), z))
 
 -- after an entry of the third group there are only such
 pub third-follows :
     (w : List ℕ) → 1 ≤ length w → (i : ℕ) → 1 ≤ i → suc i < length w → k-min w (getD (order w) i 0) ≡ 0 → k-min w (getD (order w) (suc i) 0) ≡ 0
 unfolding order
-third-follows w b i l u none =
-    let (v, v', rises, here, next) = run-rises (order-entries w b) i (omega (arith, order-length w b)) in
-    go rises here next
-  where
-    not-last : suc (getD (order w) i 0) ≢ length w
-    not-last e = order-distinct w b 0 i l (omega arith) (omega arith)
+third-follows w b zero l u none = absurd (omega arith)
+third-follows w b (suc i) l u none =
+    let (v, v', from, rises, upto, here, next) = run-rises (both-entries w b) i (suc i) (omega arith) (omega (arith, order-length w b)) in
+    let late : ¬ (v ≤ length w) = λ c. omega (arith, group-rank w from here .1 c) in
+    group-rank w (omega arith) next .2 (omega arith) .0
 
-    go : {v v' : ℕ} → v < v' → Rank w v (getD (order w) i 0) → Rank w v' (getD (order w) (suc i) 0) → k-min w (getD (order w) (suc i) 0) ≡ 0
-    go rises (last z e) next = absurd (not-last e)
-    go rises (second e r) next = absurd (omega (arith, r .positive, k-min-unique w _ _ r (omega arith)))
-    go rises (third z e n) (last z' e') = absurd (omega arith)
-    go rises (third z e n) (second e' r) = absurd (omega (arith, r .within))
-    go rises (third z e n) (third z' e' n') = no-k-min-unique w _ n' (omega arith)
+pub by-rising-k-min : (w : List ℕ) → 1 ≤ length w → By-rising-k-min w
+unfolding order
+by-rising-k-min w some = record {
+  groups = refl;
+  second = λ i b.
+      let (v, l, u, rank, rest) = run-entry (second-entries w) i b in
+      (group-rank w l rank .0, omega (arith, group-rank w l rank .1 (omega arith)));
+  second-rises = λ i j c b.
+      let (u, v, l, rises, past, here, there) = run-rises (second-entries w) i j c b in
+      omega (arith, group-rank w l here .1 (omega arith), group-rank w (omega arith) there .1 (omega arith));
+  third = λ i b.
+      let (v, l, u, rank, rest) = run-entry (third-entries w some) i b in
+      let (below, is, later) = group-rank w (omega arith) rank in (below, later l .0);
+  third-rises = λ i j c b.
+      let (u, v, l, rises, past, here, there) = run-rises (third-entries w some) i j c b in
+      omega (arith, group-rank w (omega arith) here .2 l, group-rank w (omega arith) there .2 (omega arith));
+}
 
 -- the order's entry at i: its rank v has room for i before it, k_min being below the period, and the positions of smaller ranks stand there
 pub order-at :
@@ -171,17 +190,32 @@ pub order-at :
     (v : ℕ) × (i ≤ min v (period w) + (v - suc (length w))) × Rank w v (getD (order w) i 0)
     × ((u g : ℕ) → u < v → Rank w u g → Stands (order w) i g)
 order-at w b i l =
-    let same : (v g h : ℕ) → Rank w v g → Rank w v h → g ≡ h = λ v g h r t. position-is w r ∙ sym (position-is w t) in
-    let (v, late, rank, before) = run-at room (λ v. omega arith) wider same (order-entries w b) i l in
-    (v, omega (arith, late), rank, λ u g. before u g (omega arith))
+    let (v, from, past, rank, rest) = run-entry (order-entries w b) i l in
+    let is = rank-is w rank in (
+      v,
+      late i l rank,
+      rank,
+      λ u g c r.
+          let (x, inside, e) = order-stands w b g (rank-below w r) in
+          let same : rank-of w (getD (order w) x 0) ≡ u = rw e (sym (rank-is w r)) in
+          let not-here : x ≢ i = λ q. omega (arith, rw q at same) in
+          let not-later : ¬ (i < x) = λ q. omega (arith, order-rises w b i x q inside) in
+          (x, omega arith, e),
+    )
   where
     room : ℕ → ℕ
     room v = min v (period w) + (v - suc (length w))
 
-    wider : (v h : ℕ) → Rank w v h → room v < room (suc v)
-    wider v h (last z e) = omega (arith, period-facts w b .positive)
-    wider v h (second e r) = omega (arith, k-min-below-period w h v r (omega arith))
-    wider v h (third z e n) = omega arith
+    wider : {u v h : ℕ} → Rank w u h → u < v → room u < room v
+    wider (last z e) l = omega (arith, period-facts w b .positive)
+    wider (second e r) l = omega (arith, k-min-below-period w _ _ r (omega arith))
+    wider (third z e n) l = omega arith
+
+    late : (j : ℕ) → j < length (order w) → {v : ℕ} → Rank w v (getD (order w) j 0) → j ≤ room v
+    late zero h r = omega arith
+    late (suc j) h r =
+        let (u, v', from, rises, past, here, there) = run-rises (order-entries w b) j (suc j) (omega arith) h in
+        omega (arith, late j (omega arith) here, wider here (rw (rank-is w there, ← rank-is w r) at rises))
 
 -- the two groups have all positions but one
 pub groups-length : (w : List ℕ) → 1 ≤ length w → length (second-group w) + length (third-group w) + 1 ≡ length w

@@ -1,15 +1,15 @@
--- Lists that are filled along a run of numbers, each with an entry or none: how often a number stands there, and what before an entry.
+-- Lists filled along a run of numbers: how often a number stands there, and that the numbers rise.
 -- By induction on the run.
 use mathlib.Core.Bool.{Bool, true, false, cond}
 use mathlib.Core.List.{List, [], _∷_, _++_}
 use mathlib.Core.Logic.{_≢_, ⊎-elim}
 use mathlib.Core.Path.{_≡_, refl}
-use Prim.Native.Nat.{ℕ, zero, suc, _+_, _≤_, _<_}
-use native.Mathlib.Nat.{eq-or-lt-of-le}
+use Prim.Native.Nat.{ℕ, zero, suc, _+_, _-_, _≤_, _<_}
 use native.Mathlib.Omega.{arith}
-use lib.ListN.{length, getD}
+use lib.ListN.{length, getD, drop, length-drop}
+use lib.Seq.{getD-drop}
 use Rattle.tables.proofs.Cases.{eq-or-ne}
-use Rattle.tables.proofs.Times.{Stands, times-none, times-here, times-other, stands-later}
+use Rattle.tables.proofs.Times.{times-none, times-here, times-other}
 use Rattle.tables.specs.Promises.{times}
 
 -- the list holds, in their order, the entries of the numbers from `at` on and below `past`: Q v h says that v has the entry h
@@ -58,41 +58,21 @@ module _ {Q : ℕ → ℕ → Type 0} {p : ℕ} where
       let other : a ≢ v = λ e. q i (rw e at-v) in
       run-once i v at-v only same r (omega arith) u
 
-  -- an entry is that of a number v, which has room for as many as stand before it, and there stand the entries of the numbers before v;
-  -- a number with an entry has room for one less than the next
-  pub run-at :
-      (room : ℕ → ℕ) → ((v : ℕ) → room v ≤ room (suc v)) → ((v h : ℕ) → Q v h → room v < room (suc v)) →
-      ((v g h : ℕ) → Q v g → Q v h → g ≡ h) → {a : ℕ} {l : List ℕ} → Run Q p a l → (i : ℕ) → i < length l →
-      (v : ℕ) × (room a + i ≤ room v) × Q v (getD l i 0) × ((u g : ℕ) → a ≤ u → u < v → Q u g → Stands l i g)
-  run-at room wide wider same end i b = absurd (omega arith)
-  run-at room wide wider same (entry {a} {l} x q t r) zero b = (a, omega arith, q, λ u g c d t. absurd (omega arith))
-  run-at room wide wider same (entry {a} {l} x q t r) (suc i) b =
-      let (v, late, here, before) = run-at room wide wider same r i (omega arith) in (
-        v,
-        omega (arith, wider a x q),
-        here,
-        λ u g c d t.
-            ⊎-elim (λ e. (0, omega arith, same u x g (rw e at q) t)) (λ e. stands-later x g i l (before u g e d t)) (eq-or-lt-of-le c),
-      )
-  run-at room wide wider same (none {a} {l} q r) i b =
-      let (v, late, here, before) = run-at room wide wider same r i b in (
-        v,
-        omega (arith, wide a),
-        here,
-        λ u g c d t.
-            ⊎-elim (λ e. absurd (q g (rw e t))) (λ e. before u g e d t) (eq-or-lt-of-le c),
-      )
+  -- an entry is that of a number v of the run, and those past it are a run from v + 1 on
+  pub run-entry :
+      {a : ℕ} {l : List ℕ} → Run Q p a l → (i : ℕ) → i < length l →
+      (v : ℕ) × (a ≤ v) × (v < p) × Q v (getD l i 0) × Run Q p (suc v) (drop (suc i) l)
+  run-entry end i b = absurd (omega arith)
+  run-entry (entry {a} x q t r) zero b = (a, omega arith, t, q, r)
+  run-entry (entry x q t r) (suc i) b = let (v, u, c, here, rest) = run-entry r i (omega arith) in (v, omega arith, c, here, rest)
+  run-entry (none q r) i b = let (v, u, c, here, rest) = run-entry r i b in (v, omega arith, c, here, rest)
 
-  -- an entry and the one after it are those of numbers that rise
-  run-head : {a : ℕ} {l : List ℕ} → Run Q p a l → 0 < length l → (v : ℕ) × (a ≤ v) × Q v (getD l 0 0)
-  run-head end b = absurd (omega arith)
-  run-head (entry {a} x q t r) b = (a, omega arith, q)
-  run-head (none q r) b = let (v, u, here) = run-head r b in (v, omega arith, here)
-
+  -- so of two entries the later has the larger number
   pub run-rises :
-      {a : ℕ} {l : List ℕ} → Run Q p a l → (i : ℕ) → suc i < length l →
-      (u v : ℕ) × (u < v) × Q u (getD l i 0) × Q v (getD l (suc i) 0)
-  run-rises end i b = absurd (omega arith)
-  run-rises (entry {a} x q t r) zero b = let (v, u, next) = run-head r (omega arith) in (a, v, omega arith, q, next)
-  run-rises (entry x q t r) (suc i) b = run-rises r i (omega arith)
-  run-rises (none q r) i b = run-rises r i b
+      {a : ℕ} {l : List ℕ} → Run Q p a l → (i j : ℕ) → i < j → j < length l →
+      (u v : ℕ) × (a ≤ u) × (u < v) × (v < p) × Q u (getD l i 0) × Q v (getD l j 0)
+  run-rises {l = l} r i j c b =
+      let (u, from, upto, here, rest) = run-entry r i (omega arith) in
+      let (v, rises, past, there, more) = run-entry rest (j - suc i) (rw length-drop (omega arith)) in
+      let place : suc i + (j - suc i) ≡ j = omega arith in
+      (u, v, from, rises, past, here, rw (getD-drop, place) at there)

@@ -26,7 +26,7 @@ times-none i = refl
 abbrev pub Stands : (xs : List ℕ) (c i : ℕ) → Type 0
 Stands xs c i = (x : ℕ) × (x < c) × (getD xs x 0 ≡ i)
 
-pub stands-later : (x i c : ℕ) (xs : List ℕ) → Stands xs c i → Stands (x ∷ xs) (suc c) i
+stands-later : (x i c : ℕ) (xs : List ℕ) → Stands xs c i → Stands (x ∷ xs) (suc c) i
 stands-later x i c xs (j, u, e) = (suc j, omega arith, e)
 
 -- what is counted stands in the list
@@ -37,22 +37,6 @@ times-stands i (x ∷ xs) h =
     (λ e. (0, omega arith, e))
     (λ n. stands-later x i (length xs) xs (times-stands i xs (omega (arith, times-other i x xs n))))
     (eq-or-ne x i)
-
--- and what stands in it is counted, each time
-stands-counted : (i : ℕ) (xs : List ℕ) (x : ℕ) → x < length xs → getD xs x 0 ≡ i → 1 ≤ times i xs
-stands-counted i [] x l e = absurd (omega arith)
-stands-counted i (z ∷ xs) zero l e = omega (arith, times-here i z xs e)
-stands-counted i (z ∷ xs) (suc x) l e =
-    let later = stands-counted i xs x (omega arith) e in
-    ⊎-elim (λ q. omega (arith, times-here i z xs q)) (λ q. omega (arith, times-other i z xs q)) (eq-or-ne z i)
-
-pub stands-twice : (i : ℕ) (xs : List ℕ) (x y : ℕ) → x < y → y < length xs → getD xs x 0 ≡ i → getD xs y 0 ≡ i → 2 ≤ times i xs
-stands-twice i [] x y b l e e' = absurd (omega arith)
-stands-twice i (z ∷ xs) x zero b l e e' = absurd (omega arith)
-stands-twice i (z ∷ xs) zero (suc y) b l e e' = omega (arith, times-here i z xs e, stands-counted i xs y (omega arith) e')
-stands-twice i (z ∷ xs) (suc x) (suc y) b l e e' =
-    let later = stands-twice i xs x y (omega arith) (omega arith) e e' in
-    ⊎-elim (λ q. omega (arith, times-here i z xs q)) (λ q. omega (arith, times-other i z xs q)) (eq-or-ne z i)
 
 -- how often the numbers below a bound stand in a list, together
 total : (bound : ℕ) → List ℕ → ℕ

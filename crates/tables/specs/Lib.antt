@@ -3,5 +3,5 @@ pub mod Sets
 pub mod Tables
 pub mod Buffers
 pub mod Prepare
-pub mod Promises
 pub mod Facts
+pub mod Promises

@@ -23,9 +23,10 @@ fn too_short(m: usize, lengths: TableLengths) -> bool
         | (lengths.delta3 < m)
 }
 
-// The status of a call that works the tables out, measured before anything is written: 4, 5 and 6 in their order, then 7 where the buffers for
-// the tables are too short or, as `short` says, those that the call has besides; or 0. A call that takes no hold offset (hold place) gives
-// 0 for it, and one that takes no text (chain) 0 for n.
+// The status of a call that works the tables out, measured before anything is written. It is 4, 5
+// or 6, in this order; then 7 where the buffers for the tables are too short or, as `short` says,
+// those that the call has besides; or 0. A call that takes no hold offset (hold place) passes 0
+// for it, and one that takes no text (chain) passes 0 for n.
 pub fn status(m: usize, hold_offset: usize, n: usize, lengths: TableLengths, short: bool) -> u32
     ensures { λ r. ⌜ r ≡ measured-status m «hold_offset» n lengths short ⌝ }
 {

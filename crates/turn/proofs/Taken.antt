@@ -5,8 +5,8 @@ use mathlib.Core.Path.{_≡_}
 use Prim.Native.Nat.{ℕ, _≤_}
 use native.Mathlib.Omega.{arith}
 use borrow.Author.Tests.{ltb-false, le-ltb}
-use Rattle.answers.proofs.Refusals.{Within-limits, done-none, none-done, limits-hold, limits-none}
-use Rattle.answers.specs.Refusals.{Refusal, job-refusals, buffer-refusal}
+use Rattle.answers.proofs.Refusals.{done-none, none-done, limits-hold, limits-none}
+use Rattle.answers.specs.Refusals.{Refusal, job-refusals, Within-limits, buffer-refusal}
 use Rattle.turn.specs.Turn.{way-refusal, turn-status}
 
 pub record Turnable (way m q n p x : ℕ) : Type 0 where

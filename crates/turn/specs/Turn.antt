@@ -34,7 +34,7 @@ pub record Turn-outcome-of (s way q : ℕ) (w t p p' x x' : List ℕ) (r : TurnA
   pub pattern-left : p' ≡ turned-left s way w p
   pub text-left : x' ≡ turned-left s way t x
 
--- of the status that its conditions give
+-- what `turn` answers and leaves, with the number of the first condition that holds, or 0
 abbrev pub Turn-outcome : (way q : ℕ) (w t p p' x x' : List ℕ) (r : TurnAnswer) → Type 0
 Turn-outcome way q w t p p' x x' r =
     Turn-outcome-of (turn-status way (length w) q (length t) (length p) (length x)) way q w t p p' x x' r

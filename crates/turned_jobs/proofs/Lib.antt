@@ -1,5 +1,4 @@
 pub mod Reversed
 pub mod Occurrences
 pub mod Frames
-pub mod Ones
 pub mod Calls

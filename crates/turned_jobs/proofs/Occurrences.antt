@@ -1,30 +1,37 @@
 -- The occurrences of a pattern and a text turned alike (`Occurrences-turned`, `Number-turned`): the positions that pass a test are turned where it is.
 -- An occurrence turned is one of the job turned, byte by byte; and back again, since the same turn twice gives back what was drawn.
+-- So is a period, which gives the period (`Period-turned`) and the bound (`Bound-turned`).
 use mathlib.Core.Bool.{Bool, true, false, cond}
-use mathlib.Core.List.{List, map}
+use mathlib.Core.List.{List}
+use mathlib.Core.Logic.{⊎-elim}
 use mathlib.Core.Path.{_≡_, refl, sym, _∙_, ap}
 use Prim.Native.Nat.{ℕ, _+_, _-_, _%_, _≤_, _<_}
 use native.Mathlib.Nat.{mod-lt}
 use native.Mathlib.Omega.{arith}
 use lib.ListN.{length}
 use Rattle.answers.specs.Bytes.{Bytes}
+use Rattle.tables.proofs.Cases.{true-or-false, le-or-lt}
+use Rattle.tables.proofs.Periods.{period-facts}
+use Rattle.tables.specs.Facts.{Has-period}
+use Rattle.tables.specs.Least.{least-from}
 use Rattle.tables.specs.Sets.{byte}
+use Rattle.tables.specs.Tables.{period}
 use Rattle.steps.proofs.Occurrences.{occurs-agrees, agrees-occurs}
 use Rattle.steps.proofs.Steps.{Agrees}
 use Rattle.steps.proofs.Text.{shown-at, span-reaches}
 use Rattle.steps.specs.Occurrences.{occurrences}
 use Rattle.steps.specs.Text.{shown, span}
-use Rattle.ring.proofs.Ascending.{Ascends, passing-same}
+use Rattle.ring.proofs.Ascending.{passing-same}
 use Rattle.ring.proofs.Back.{same-test, other-end}
 use Rattle.ring.proofs.Listed.{passing-moved, ascending-count}
 use Rattle.ring.proofs.Occurrences.{occurs-in, occurrences-passing, occurrences-ascend}
-use Rattle.ring.specs.Ring.{passing, ascending}
+use Rattle.ring.specs.Ring.{passing}
 use Rattle.mirror.specs.Mirrored.{mirrored}
 use Rattle.turn.proofs.Turned.{mirrored-if, index-inside, length-turned, turned-entry, turned-twice}
 use Rattle.turn.specs.Promises.{Turned-twice}
 use Rattle.turn.specs.Turned.{reverses, turned, turned-index}
 use Rattle.turned_jobs.proofs.Reversed.{reversed-inside, reversed-turn, reversed-twice, reversed-inverse}
-use Rattle.turned_jobs.specs.Promises.{reversed-position, turned-positions, Occurrences-turned, Number-turned}
+use Rattle.turned_jobs.specs.Promises.{reversed-position, turned-positions, Occurrences-turned, Number-turned, Period-turned, Bound-turned}
 
 -- position b of a ring of n, turned, for a pattern of m
 abbrev pub turned-position : (way m n b : ℕ) → ℕ
@@ -35,43 +42,31 @@ passing-turned :
     (way m n : ℕ) (f g : ℕ → Bool) → ((b : ℕ) → b < n → g b ≡ f (turned-position way m n b)) →
     passing n 0 g ≡ turned-positions way m n (passing n 0 f)
 unfolding turned-positions
-passing-turned way m n f g = cases (reverses way)
-  where
-    cases :
-        (z : Bool) → ((b : ℕ) → b < n → g b ≡ f (cond z (reversed-position m n b) b)) →
-        passing n 0 g ≡ cond z (ascending n (map (reversed-position m n) (passing n 0 f))) (passing n 0 f)
-    cases true same = passing-moved (reversed-inverse m n) g f same
-    cases false same = passing-same n 0 g f (λ b l h. same b (omega arith))
+passing-turned way m n f g same =
+    ⊎-elim
+    (λ e. rw e (passing-moved (reversed-inverse m n) g f (λ b l. rw e at (same b l))))
+    (λ e. rw e (passing-same n 0 g f (λ b l h. rw e at (same b (omega arith)))))
+    (true-or-false (reverses way))
 
 -- the position turned is one of the ring, and turned again the position that it was
 module _ (way m n b : ℕ) (h : b < n) where
   position-inside : turned-position way m n b < n
-  position-inside = cases (reverses way)
-    where
-      cases : (z : Bool) → cond z (reversed-position m n b) b < n
-      cases true = reversed-inside m n (omega arith) b
-      cases false = h
+  position-inside = ⊎-elim (λ e. rw e (reversed-inside m n (omega arith) b)) (λ e. rw e h) (true-or-false (reverses way))
 
   position-twice : turned-position way m n (turned-position way m n b) ≡ b
-  position-twice = cases (reverses way)
-    where
-      cases : (z : Bool) → cond z (reversed-position m n (cond z (reversed-position m n b) b)) (cond z (reversed-position m n b) b) ≡ b
-      cases true = reversed-twice m n (omega arith) b h
-      cases false = refl
+  position-twice = ⊎-elim (λ e. rw e (reversed-twice m n (omega arith) b h)) (λ e. rw e) (true-or-false (reverses way))
 
 -- byte j of the pattern at the position turned is byte j turned of the pattern at the position b
 index-there :
     (way m n b j : ℕ) → 1 ≤ n → j < m → turned-index way n ((turned-position way m n b + j) % n) ≡ (b + turned-index way m j) % n
 unfolding turned-index
-index-there way m n b j some l = cases (reverses way)
-  where
-    cases :
-        (z : Bool) → let x = cond z (reversed-position m n b) b + j in cond z (n - 1 - x % n) (x % n) ≡ (b + cond z (m - 1 - j) j) % n
-    cases true =
-        let b' = reversed-position m n b in
-        let whole : b' + j + (b + (m - 1 - j)) + 1 ≡ b' + (m + b) = omega arith in
-        other-end n some (b' + j) (b + (m - 1 - j)) (rw whole (reversed-turn m n some b))
-    cases false = refl
+index-there way m n b j some l =
+    let b' = reversed-position m n b in
+    let whole : b' + j + (b + (m - 1 - j)) + 1 ≡ b' + (m + b) = omega arith in
+    ⊎-elim
+    (λ e. rw e (other-end n some (b' + j) (b + (m - 1 - j)) (rw whole (reversed-turn m n some b))))
+    (λ e. rw e)
+    (true-or-false (reverses way))
 
 module _ (way : ℕ) (w t : List ℕ) where
   abbrev m : ℕ
@@ -129,17 +124,44 @@ occurrences-turned way w t some hw ht =
     rw (occurrences-passing w' t' (omega arith), occurrences-passing w t some, length-turned way t)
     (passing-turned way (length w) (length t) (occurs-in w t) (occurs-in w' t') (occurs-there way w t some hw ht))
 
--- turned, the positions are as many
-length-positions : (way m n : ℕ) (bs : List ℕ) → Ascends 0 n bs → length (turned-positions way m n bs) ≡ length bs
-unfolding turned-positions
-length-positions way m n bs a = cases (reverses way)
-  where
-    cases : (z : Bool) → length (cond z (ascending n (map (reversed-position m n) bs)) bs) ≡ length bs
-    cases true = ascending-count (reversed-inverse m n) 0 bs a
-    cases false = refl
+-- where F of both is the same, F of either is that of the second
+pub same-either : (F : List ℕ → ℕ) (z : Bool) {x y : List ℕ} → F x ≡ F y → F (cond z x y) ≡ F y
+same-either F true e = e
+same-either F false e = refl
 
 pub number-turned : Number-turned
-unfolding Number-turned Occurrences-turned
+unfolding Number-turned Occurrences-turned turned-positions
 number-turned way w t some hw ht =
     rw (occurrences-turned way w t some hw ht)
-    (length-positions way (length w) (length t) (occurrences w t) (occurrences-ascend w t some))
+    (same-either length (reverses way) (ascending-count (reversed-inverse (length w) (length t)) 0 (occurrences w t) (occurrences-ascend w t some)))
+
+-- a period of the pattern is one of the pattern turned
+repeats-turned : (way : ℕ) (w : List ℕ) (p : ℕ) → Has-period w p → Has-period (turned way w) p
+unfolding turned-index
+repeats-turned way w p h i l =
+    let inside : i + p < length w = rw length-turned at l in
+    let (j, there) : (j : ℕ) × (j + p ≡ length w - 1 - i) = (length w - 1 - (i + p), omega arith) in
+    let same : byte w (turned-index way (length w) i) ≡ byte w (turned-index way (length w) (i + p)) =
+    ⊎-elim (λ e. rw (e, ← there, h j (omega arith))) (λ e. rw e (h i inside)) (true-or-false (reverses way)) in
+    rw (turned-entry way w i (omega arith), turned-entry way w (i + p) inside, same)
+
+-- so the period of the pattern turned is no longer
+period-within : (way : ℕ) (w : List ℕ) → 1 ≤ length w → period (turned way w) ≤ period w
+period-within way w some =
+    let p = period-facts w some in
+    let p' = period-facts (turned way w) (rw length-turned some) in
+    let not-below : ¬ (period w < period (turned way w)) = λ l. p' .least (period w) (p .positive) l (repeats-turned way w (period w) (p .value)) in
+    omega arith
+
+pub period-turned : Period-turned
+unfolding Period-turned Turned-twice period least-from
+period-turned way w h =
+    let size = length-turned way w in
+    ⊎-elim
+    (λ some. omega (arith, period-within way w some, rw (turned-twice way w h) at (period-within way (turned way w) (omega arith))))
+    (λ none. let short : length w - 1 ≡ 0 = omega arith in rw (size, short))
+    (le-or-lt 1 (length w))
+
+pub bound-turned : Bound-turned
+unfolding Bound-turned Period-turned Number-turned span
+bound-turned way w t some hw ht = rw (number-turned way w t some hw ht, period-turned way w hw, length-turned way w, length-turned way t)

@@ -1,5 +1,6 @@
--- What is promised of a job that is turned (document 02, "Mirrored edges"): its occurrences (finds), its frames and its ones (holes).
--- Each is a type, and its proof is in proofs/. These are definitions.
+-- What is promised of a job that is turned (document 02, "Mirrored edges"): its occurrences
+-- (finds), its period and its bound, its frames, its ones (holes) and its cost. Each is a type, and
+-- its proof is in proofs/. These are definitions.
 use mathlib.Core.Bool.{cond}
 use mathlib.Core.List.{List, map}
 use mathlib.Core.Path.{_≡_}
@@ -7,12 +8,15 @@ use Prim.Native.Nat.{ℕ, _+_, _≤_, _<_}
 use lib.Dec.{eqb}
 use lib.ListN.{length}
 use Rattle.answers.specs.Bytes.{Bytes}
+use Rattle.tables.specs.Tables.{period}
+use Rattle.steps.specs.Bound.{search-bound}
 use Rattle.steps.specs.Occurrences.{occurrences}
 use Rattle.ring.specs.Ring.{back, ascending}
 use Rattle.ones.specs.Ones.{ones-of}
 use Rattle.frames.specs.Frames.{hold, frames}
 use Rattle.mirror.specs.Mirrored.{mirrored}
 use Rattle.turn.specs.Turned.{reverses, turned-by, turned, turned-index}
+use Rattle.price.specs.Price.{job-cost}
 
 -- n - m - b modulo n: where position (place) b of a ring of n is after its order is reversed, for a pattern (motif) of m
 abbrev pub reversed-position : (m n b : ℕ) → ℕ
@@ -34,6 +38,16 @@ Number-turned =
     (way : ℕ) (w t : List ℕ) → 1 ≤ length w → Bytes w → Bytes t →
     length (occurrences (turned way w) (turned way t)) ≡ length (occurrences w t)
 
+-- a pattern turned has the same period
+unfoldable pub Period-turned : Type 0
+Period-turned = (way : ℕ) (w : List ℕ) → Bytes w → period (turned way w) ≡ period w
+
+-- a job turned has the same bound
+unfoldable pub Bound-turned : Type 0
+Bound-turned =
+    (way : ℕ) (w t : List ℕ) → 1 ≤ length w → Bytes w → Bytes t →
+    search-bound (turned way w) (turned way t) ≡ search-bound w t
+
 -- a frame mirrored: a hold stays a hold, and a move is one with its byte (card) mirrored
 unfoldable pub mirrored-frame : (frame : ℕ) → ℕ
 mirrored-frame f = cond (eqb f hold) hold (mirrored f)
@@ -51,3 +65,9 @@ Frames-turned =
 -- a text turned has as many ones (holes)
 unfoldable pub Ones-turned : Type 0
 Ones-turned = (way : ℕ) (t : List ℕ) → Bytes t → ones-of (turned way t) ≡ ones-of t
+
+-- a job turned, its hold offset too, costs the same
+unfoldable pub Cost-turned : Type 0
+Cost-turned =
+    (way q : ℕ) (w t : List ℕ) → Bytes w → Bytes t → q < length w →
+    job-cost (turned-index way (length w) q) (turned way w) (turned way t) ≡ job-cost q w t

@@ -1,16 +1,17 @@
--- The worked examples hold of the definitions.
--- Each claim is computed: both sides of its equation come to the same value. The longest jobs go by the laws of written files and of equal bytes.
+-- The worked examples hold of the definitions, and the wrong claims beside them do not.
+-- Each claim is computed; the longest jobs go by the laws of written files and of equal bytes.
 use mathlib.Core.Bool.{false, and-false}
 use mathlib.Core.List.{List, [], _∷_}
-use mathlib.Core.Path.{_≡_, refl, _∙_}
-use Prim.Native.Nat.{ℕ, zero, suc, _+_, _%_, _≤_, _<_}
-use native.Mathlib.Nat.{mod-lt}
+use mathlib.Core.Path.{_≡_, refl, _∙_, ap}
+use Prim.Native.Nat.{ℕ, zero, suc, _+_, _*_, _%_, _≤_, _<_}
+use native.Mathlib.Nat.{mod-lt, suc-mul}
 use native.Mathlib.Omega.{arith}
+use borrow.Author.Tests.{eqb-false}
 use lib.Count.{ones}
 use lib.Dec.{leb, eqb}
 use lib.ListN.{length, replicate, length-replicate, getD-replicate}
 use Rattle.answers.proofs.Bytes.{each-byte}
-use Rattle.answers.specs.Answers.{if-done, answered}
+use Rattle.answers.specs.Answers.{counted, if-done, answered}
 use Rattle.answers.specs.Buffers.{from-entry, in-front}
 use Rattle.answers.specs.Bytes.{Bytes}
 use Rattle.answers.specs.Refusals.{first-of, longest-pattern, longest-text, job-refusals}
@@ -24,11 +25,12 @@ use Rattle.job.specs.Write.{write-status, write-answer}
 use Rattle.tables.specs.Least.{least-from, all-from}
 use Rattle.tables.specs.Buffers.{tables-left}
 use Rattle.tables.specs.Prepare.{prepare-status}
-use Rattle.tables.specs.Sets.{Pos, Neg}
+use Rattle.tables.specs.Sets.{byte, Pos, Neg}
 use Rattle.tables.specs.Tables.{h-min, k-min, r-min, period, second-group-from, second-group, third-group-from, third-group, order, stored-order, Δ2, values-from, stored-Δ2, Δ1, stored-Δ1, repeats, Δ3, Δ3-defined, stored-Δ3, falling, repeat-row, repeat-shifts}
 use Rattle.steps.proofs.Text.{shown-at}
 use Rattle.steps.specs.Occurrences.{occurs, occurrences-from, all-occurrences, occurrences}
 use Rattle.steps.specs.Bound.{bound}
+use Rattle.steps.specs.Promises.{Same-at}
 use Rattle.steps.specs.Steps.{agreeing, row, shifts, step, alignments-from, alignments, compared, is-occurrence, repeat-after, comparisons-of, listed, comparisons}
 use Rattle.steps.specs.Text.{shown, span}
 use Rattle.ring.specs.Ring.{back, is-in, passing, ascending}
@@ -47,11 +49,12 @@ use Rattle.conversions.specs.Restored.{restored, converts-again, is-conversion}
 use Rattle.tariff.proofs.Cost.{cost-equal}
 use Rattle.tariff.specs.Tariff.{byte-price, sum-from, total, rebate, cost}
 use Rattle.price.specs.Price.{job-cost, price-status, price-answer}
+use Rattle.explain_answers.specs.Answer.{explained}
 use Rattle.explanations.specs.Explanation.{kind-by, spoils, first-spoilt, where-laid, explained-by, explanation}
 use Rattle.explain.specs.Explain.{explain-status, explain-answer}
 use Rattle.printer.specs.Printed.{report-status, report-answer, refused-report}
 use Rattle.report.specs.Report.{done-report, seek-report}
-use Rattle.worked_examples.specs.Examples.{a, b, bytes, Holds, examples, All, All-hold}
+use Rattle.worked_examples.specs.Examples.{a, b, left-by-ac, bytes, shorthand-k-min, shorthand, Holds, examples, All, All-hold}
 
 -- the first row's proof, then those of the rows below
 infixr 20 _then_
@@ -88,8 +91,21 @@ job-none n c d q some e =
     let (t, w) : List ℕ × List ℕ = (replicate n c, d ∷ []) in
     rw (none-occurs (shown t) (span w t) d (suc (span w t)) 0 (λ x. rw (shown-equal n c x some) e))
 
+-- the ones of equal bytes, by those of one
+ones-equal : (n c : ℕ) → ones-of (replicate n c) ≡ n * ones c
+unfolding ones-of
+ones-equal zero c = omega arith
+ones-equal (suc n) c = omega (arith, ones-equal n c, suc-mul n (ones c))
+
+-- numbers that differ are not equal, nor are values that a function takes to such numbers
+unequal : {x y : ℕ} → eqb x y ≡ false → x ≡ y → ⊥
+unequal {x} {y} = eqb-false x y
+
+apart : {A : Type 0} {x y : A} (f : A → ℕ) → eqb (f x) (f y) ≡ false → x ≡ y → ⊥
+apart f d e = unequal d (ap f e)
+
 pub examples-hold : All-hold examples
-unfolding bytes Holds examples All All-hold
+unfolding bytes Holds examples All All-hold shorthand-k-min shorthand Same-at
     if-done answered count-answer first-of job-refusals is-digit digit-value digit digits all-digits number
     lines read-status write-status prepare-status search-status convert-status count-status report-status refused-report first-line job-file edition-in m-in q-in n-in bytes-in pattern-in text-in good-line good-lines file-refusals file-status
     least-from all-from Pos Neg h-min k-min r-min period second-group-from second-group third-group-from third-group order stored-order Δ2 values-from stored-Δ2 Δ1
@@ -123,17 +139,17 @@ examples-hold =
     then (refl, (refl, (refl, (refl, (refl, tt)))))
     then (refl, (refl, (refl, (refl, (refl, (refl, (refl, (refl, (refl, tt)))))))))
     then ((refl, refl), ((refl, refl), ((refl, refl), ((refl, refl), (refl, (refl, ((refl, refl), ((refl, refl), ((refl, refl), ((refl, refl), tt))))))))))
-    then (refl, (refl, (refl, (refl, (refl, (refl, (refl, (refl, (refl, (refl, (refl, (refl, (refl, (refl, (refl, tt)))))))))))))))
+    then (refl, (refl, (refl, (refl, (refl, (refl, (refl, (refl, (refl, (refl, (refl, (refl, (refl, (refl, (refl, (refl, (refl, (refl, tt))))))))))))))))))
     then (refl, (record { answer = refl; text-left = refl }, (record { answer = refl; text-left = refl }, (record { answer = refl; text-left = refl }, (record { answer = refl; text-left = refl }, (refl, (refl, (refl, tt))))))))
     then (refl, (refl, (refl, (refl, (refl, (refl, (refl, (refl, (refl, (refl, (record { answer = refl; text-left = refl }, (record { answer = refl; text-left = refl }, (record { answer = refl; text-left = refl }, (record { answer = refl; text-left = refl }, (record { answer = refl; text-left = refl }, (record { answer = refl; text-left = refl }, tt))))))))))))))))
     then (record { answer = refl; text-left = refl }, (record { answer = refl; text-left = refl }, (record { answer = refl; text-left = refl }, (record { answer = refl; text-left = refl }, (record { answer = refl; text-left = refl }, (record { answer = refl; text-left = refl }, (refl, (refl, (refl, (refl, (refl, tt)))))))))))
     then (refl, (refl, (refl, (refl, (refl, (refl, (refl, (refl, (refl, (refl, (refl, (refl, (refl, (refl, (refl, tt)))))))))))))))
     then (job-none 4097 0x00 b 0 (omega arith) refl ∙ cost-equal 4097 0x00 0x00, (cost-equal 4096 0x00 0x00, (cost-equal 4097 0x00 0x00, (cost-equal 4096 0x00 256, (cost-equal 4097 0x00 256, (cost-equal 16384 0xFF 256, (refl, (refl, (refl, (refl, (refl, (refl, tt))))))))))))
     then (record { answer = refl; tables = refl; occurrences-left = refl }, (record { answer = refl; tables = refl; occurrences-left = refl }, (record { answer = refl; tables = refl; occurrences-left = refl }, (record { answer = refl; tables = refl; occurrences-left = refl }, (record { answer = refl; tables = refl; occurrences-left = refl }, (record { answer = refl; tables = refl; occurrences-left = refl }, (record { answer = refl; tables = refl; occurrences-left = refl }, (refl, (refl, (refl, (refl, (refl, (refl, (refl, (refl, (refl, (refl, (refl, (refl, (refl, (refl, tt)))))))))))))))))))))
-    then (refl, (refl, (refl, (refl, tt))))
+    then (refl, (refl, (refl, (refl, (ones-equal 8192 0xFF, (ap counted (ones-equal 8192 0xFF), tt))))))
     then (refl, (refl, (refl, (refl, (refl, (refl, (refl, (refl, (refl, (refl, (refl, (refl, (refl, (refl, (refl, (refl, (refl, (refl, tt))))))))))))))))))
     then (record { answer = refl; tables = refl }, (record { answer = refl; tables = refl }, (record { answer = refl; tables = refl; occurrences-left = refl }, (record { answer = refl; tables = refl; occurrences-left = refl }, (record { answer = refl; tables = refl; occurrences-left = refl }, (record { answer = refl; tables = refl; occurrences-left = refl; moves-and-holds-left = refl }, (record { answer = refl; tables = refl; occurrences-left = refl; moves-and-holds-left = refl }, (record { answer = refl; pattern-left = refl; text-left = refl }, (record { answer = refl; pattern-left = refl; text-left = refl }, (record { answer = refl; file-left = refl }, (record { answer = refl; file-left = refl }, (record { answer = refl; pattern-left = refl; text-left = refl }, (record { answer = refl; pattern-left = refl; text-left = refl }, (record { answer = refl; out-left = refl }, (record { answer = refl; out-left = refl }, (record { answer = refl; out-left = refl }, tt))))))))))))))))
-    then (refl, (refl, ((refl, refl), (refl, (refl, tt)))))
+    then (refl, (refl, ((refl, refl), (refl, (refl, (refl, ((refl, refl, omega arith, omega arith), tt)))))))
     then (refl, (refl, (refl, (record { answer = refl; tables = refl }, (record { answer = refl; tables = refl }, (record { answer = refl; tables = refl }, (refl, (refl, (refl, (refl, tt))))))))))
     then (refl, ((refl, refl), (refl, (refl, ((refl, refl), (refl, (refl, (refl, (refl, (refl, (refl, tt)))))))))))
     then (refl, (refl, (refl, (refl, (refl, tt)))))
@@ -142,4 +158,28 @@ examples-hold =
     then (refl, (refl, (refl, (refl, (refl, (refl, (refl, (refl, (refl, (refl, (refl, (refl, (refl, (refl, (refl, (refl, (refl, (refl, (refl, (record { answer = refl; tables = refl }, (record { answer = refl; tables = refl }, (record { answer = refl; tables = refl }, (record { answer = refl; tables = refl }, tt)))))))))))))))))))))))
     then (refl, ((refl, refl), (refl, (refl, ((refl, refl), ((refl, refl), (refl, (refl, (refl, (refl, (refl, (record { answer = refl; text-left = refl }, (record { answer = refl; text-left = refl }, (refl, (record { answer = refl; tables = refl; occurrences-left = refl; moves-and-holds-left = refl }, (record { answer = refl; tables = refl; occurrences-left = refl }, (record { answer = refl; tables = refl; occurrences-left = refl }, (record { answer = refl; tables = refl }, (refl, (refl, (refl, (refl, tt))))))))))))))))))))))
     then (refl, (refl, ((refl, refl), (refl, (refl, (refl, ((refl, refl), (refl, ((refl, refl), (refl, (refl, ((refl, refl), (refl, (refl, (refl, (refl, (refl, ((by-convert (record { answer = refl; tables = refl; occurrences-left = refl; moves-and-holds-left = refl }), refl, by-convert (record { answer = refl; tables = refl; occurrences-left = refl; moves-and-holds-left = refl }), refl, record { tables = refl; found = refl; frames = refl }), ((by-search (record { answer = refl; tables = refl; occurrences-left = refl }), refl, by-search (record { answer = refl; tables = refl; occurrences-left = refl }), refl, record { tables = refl; found = refl; frames = refl }), tt)))))))))))))))))))
+    then (refl, (refl, ((refl, (refl, (refl, tt))), ((by-search (record { answer = refl; tables = refl; occurrences-left = refl }), refl, by-search (record { answer = refl; tables = refl; occurrences-left = refl }), refl, refl, (refl, (refl, (refl, tt)))), ((by-convert (record { answer = refl; tables = refl; occurrences-left = refl; moves-and-holds-left = refl }), refl, by-convert (record { answer = refl; tables = refl; occurrences-left = refl; moves-and-holds-left = refl }), refl, refl, (refl, (refl, (refl, tt)))), ((record { lent = left-by-ac; left = left-by-ac; outcome = record { answer = refl; tables = refl }; taken = refl }, record { lent = left-by-ac; left = left-by-ac; outcome = record { answer = refl; tables = refl }; taken = refl }, refl, (refl, (refl, (refl, tt)))), ((record { lent = left-by-ac; left = left-by-ac; outcome = record { answer = refl; tables = refl }; taken = refl }, record { lent = left-by-ac; left = left-by-ac; outcome = record { answer = refl; tables = refl }; taken = refl }, refl, (refl, (refl, (refl, tt)))), ((record { lent = left-by-ac; left = left-by-ac; outcome = record { answer = refl; tables = refl }; taken = refl }, record { lent = left-by-ac; left = left-by-ac; outcome = record { answer = refl; tables = refl }; taken = refl }, refl, (refl, (refl, (refl, tt)))), ((record { allowed = record { answer = refl; tables = refl; occurrences-left = refl }; taken = refl }, record { allowed = record { answer = refl; tables = refl; occurrences-left = refl }; taken = refl }, refl, (refl, (refl, (refl, tt)))), tt)))))))))
+    then (refl, tt)
+    then (unequal refl then apart length refl then apart length refl then unequal refl then apart length refl then (λ o. apart length refl (o .0))
+    then unequal refl then apart length refl then unequal refl then unequal refl then unequal refl then apart length refl then apart length refl
+    then unequal refl then unequal refl then unequal refl then unequal refl then unequal refl then unequal refl then unequal refl
+    then apart (λ r. r .delta3) refl then unequal refl then unequal refl then apart (λ r. r .ones) refl then apart (λ l. byte l 0) refl
+    then apart (λ l. byte l 0) refl then unequal refl then apart (λ l. byte l 0) refl then apart (λ r. r .q) refl then unequal refl
+    then (λ o. apart (λ l. byte l 0) refl (o .text-left)) then unequal refl then unequal refl then unequal refl then unequal refl
+    then (λ o. apart (λ r. r .pence) refl (o .answer)) then (λ o. apart (λ r. r .period) refl (o .answer))
+    then (λ o. apart (λ l. byte l 0) refl (o .occurrences-left)) then (λ o. apart (λ l. byte l 0) refl (o .moves-and-holds-left))
+    then (λ o. apart (λ r. r .answer .status) refl (o .answer)) then (λ o. apart (λ r. r .answer .status) refl (o .answer))
+    then (λ o. apart (λ r. r .answer .status) refl (o .answer)) then (λ o. apart (λ r. r .answer .status) refl (o .answer))
+    then apart (λ e. explained e .place) refl then apart (λ r. r .place) refl then unequal refl
+    then (λ o. apart (λ r. r .answer .status) refl (o .answer)) then apart (λ l. byte l 0) refl then apart (λ l. byte l 0) refl
+    then (λ o. unequal refl (o .3)) then (λ o. unequal refl (o .1 .0)) then (λ o. unequal refl (o .5 .1 .0)) then unequal refl
+    then (λ o. absurd (omega (arith, o .3))) then (λ o. unequal refl (o .1 .taken))
+    then (λ o. apart (λ r. r .pence) refl (o .1 .allowed .answer)) then (λ no. no refl)
+    then (λ o. apart (λ x. byte (x .delta2) 0) refl (o .tables)) then (λ o. apart (λ r. r .occurrences) refl (o .answer))
+    then (λ o. apart (λ r. r .period) refl (o .answer)) then (λ o. apart (λ r. r .status) refl (o .answer))
+    then (λ o. apart (λ x. byte (x .delta2) 0) refl (o .tables)) then (λ o. apart (λ l. byte l 0) refl (o .pattern-left))
+    then (λ o. apart (λ l. byte l 0) refl (o .file-left)) then (λ o. apart (λ l. byte l 0) refl (o .pattern-left))
+    then (λ o. apart (λ l. byte l 0) refl (o .out-left)) then (λ o. apart (λ x. byte (x .delta2) 0) refl (o .tables))
+    then (λ o. unequal refl (o .4 .found)) then (λ o. unequal refl (o .3)) then (λ o. unequal refl (o .3 .1 .0))
+    then (λ o. unequal refl (o .3 .1 .0)) then (λ o. unequal refl (o .4)) then tt)
     then tt

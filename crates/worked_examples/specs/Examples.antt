@@ -1,10 +1,12 @@
 -- The worked examples: document 01's ten ("Marked swatches"), its edges and its orders of refusal, and what document 02 adds, as rows of one
 -- table, and the common statement that covers them. These are definitions.
-use mathlib.Core.List.{List, [], _∷_, _++_}
+use mathlib.Core.Bool.{_&&_, cond}
+use mathlib.Core.List.{List, [], _∷_, _++_, map}
 use mathlib.Core.Path.{_≡_}
 use Prim.Native.Char.{code}
-use Prim.Native.Nat.{ℕ}
+use Prim.Native.Nat.{ℕ, suc, _+_, _-_, _<_}
 use Prim.Native.String.{String, [] as end, _∷_ as _then_}
+use lib.Dec.{leb, eqb}
 use lib.IntN.{ℤ, pos, negsuc}
 use lib.ListN.{length, drop, replicate}
 use Rattle.answers.specs.Answers.{answered}
@@ -15,19 +17,21 @@ use Rattle.job.specs.Write.{write-status, Write-outcome}
 use Rattle.job.specs.declared.ReadAnswer.{ReadAnswer}
 use Rattle.job.specs.declared.WriteAnswer.{WriteAnswer}
 use Rattle.tables.specs.Buffers.{Tables, tables, needed}
+use Rattle.tables.specs.Least.{least-from}
 use Rattle.tables.specs.Prepare.{prepare-status, prepare-done, Prepare-outcome}
-use Rattle.tables.specs.Tables.{period, stored-order, Δ1, stored-Δ2, stored-Δ3}
+use Rattle.tables.specs.Tables.{h-min, r-min, period, stored-order, Δ1, stored-Δ2, Δ3, stored-Δ3}
 use Rattle.tables.specs.declared.TableLengths.{TableLengths}
 use Rattle.steps.specs.Bound.{search-bound}
 use Rattle.steps.specs.Occurrences.{occurrences}
+use Rattle.steps.specs.Promises.{Same-at}
 use Rattle.steps.specs.Steps.{Comparison, alignments-in, comparisons, listed}
+use Rattle.steps.specs.Text.{shown}
 use Rattle.matcher.specs.Search.{search-status, search-done, Search-outcome}
 use Rattle.ones.specs.Ones.{ones-of, count-status, count-answer}
 use Rattle.ones.specs.Words.{word-of}
 use Rattle.frames.specs.Frames.{frames}
 use Rattle.converter.specs.Convert.{convert-status, convert-done, Convert-outcome}
-use Rattle.converter.specs.Paired.{Buffers, Call, Call-taken, Search}
-use Rattle.rotated_jobs.specs.Calls.{Lent-as-long}
+use Rattle.converter.specs.Paired.{Buffers, Call, Call-taken, Any-search, Lent-as-long}
 use Rattle.rotated_jobs.specs.Promises.{rotated, rotated-positions}
 use Rattle.turn.specs.Turn.{turn-status, turn-answer, turned-left, Turn-outcome}
 use Rattle.turn.specs.Turned.{turned}
@@ -35,6 +39,7 @@ use Rattle.turn.specs.declared.TurnAnswer.{TurnAnswer}
 use Rattle.restore.specs.Restore.{restore-status, Restore-outcome}
 use Rattle.tariff.specs.Tariff.{rebate, cost}
 use Rattle.price.specs.Price.{price-status, job-cost, Price-outcome}
+use Rattle.price.specs.Promises.{Price-call, Priced}
 use Rattle.price.specs.declared.PriceAnswer.{PriceAnswer}
 use Rattle.explain_answers.specs.Answer.{explained}
 use Rattle.explain_answers.specs.declared.ExplainAnswer.{ExplainAnswer}
@@ -43,6 +48,7 @@ use Rattle.explain_answers.specs.declared.Explanation.the-variants.{Listed, Tri
 use Rattle.explain_answers.specs.declared.ShiftKind.the-variants.{LastByte, Order, AfterOccurrence, LongRepeat}
 use Rattle.explanations.specs.Explanation.{explanation-in}
 use Rattle.explain.specs.Explain.{explain-status, Explain-outcome}
+use Rattle.explained_jobs.specs.Calls.{Explains}
 use Rattle.printer.specs.Printed.{report-status}
 use Rattle.printer.specs.declared.ReportAnswer.{ReportAnswer}
 use Rattle.report.specs.Report.{seek-report, Report-outcome}
@@ -99,6 +105,13 @@ pub data Claim : Type 0 where
   rotated-are : (r : ℕ) → (bytes rotated-bytes : List ℕ) → Claim
   rotated-positions-are : (n r : ℕ) → (positions turned-back : List ℕ) → Claim
   both-searched : (r q : ℕ) → (w t : List ℕ) → (first later : Call) → Claim
+  alike-where-compared : (w t u : List ℕ) → Claim
+  both-paired : (q : ℕ) → (w t u : List ℕ) → (first other : Call) → Claim
+  shorthand-is : (w : List ℕ) → (i k : ℕ) → Claim
+  shift-loses : (w t : List ℕ) → (b i k lost : ℕ) → Claim
+  both-explained : (position : ℕ) → (w t u : List ℕ) → (first other : ExplainAnswer) → Claim
+  both-priced : (q : ℕ) → (w t u : List ℕ) → (first other : Price-call) → Claim
+  refuted : (wrong : Claim) → Claim
 
 -- the bytes of what is written in quotes: each character's code
 unfoldable pub bytes : String → List ℕ
@@ -115,7 +128,23 @@ c = 0x18
 abbrev pub b : ℕ
 b = 0x01
 
--- what a claim says, each an equation with its definition, or a call's outcome by its equations. The occurrences (finds) are those by meaning, and the steps list the same
+-- document 002's k'_min(h): the least k of m - p or more with h_min(k) = h and h at least k; else 0
+unfoldable pub shorthand-k-min : (w : List ℕ) → (h : ℕ) → ℕ
+shorthand-k-min w h =
+    let k = least-from (suc (period w)) (length w - period w) (λ k. eqb (h-min w k) h && leb k h) in
+    cond (leb k (length w)) k 0
+
+-- its shorthand for Δ3(i): k'_min(i) if that is not 0, else r_min(i)
+unfoldable pub shorthand : (w : List ℕ) → (i : ℕ) → ℕ
+shorthand w i = let k = shorthand-k-min w i in cond (eqb k 0) (r-min w i) k
+
+-- two texts (rings) show the same byte wherever the search for w in the first compares
+abbrev Alike : (w t u : List ℕ) → Type 0
+Alike w t u = Same-at (comparisons w t) (shown t) (shown u)
+
+-- what a claim says, each an equation with its definition, or a call's outcome by its equations; a
+-- refuted one, that the wrong claim does not hold. The occurrences (finds) are those by meaning, and
+-- the steps list the same
 unfoldable pub Holds : Claim → Type 0
 Holds (period-is w p) = period w ≡ p
 Holds (order-is w entries) = stored-order w ≡ entries
@@ -168,7 +197,16 @@ Holds (explaining-leaves position w t lent left given) = Explain-outcome positio
 Holds (rotated-are r bytes rotated-bytes) = rotated r bytes ≡ rotated-bytes
 Holds (rotated-positions-are n r positions turned-back) = rotated-positions n r positions ≡ turned-back
 Holds (both-searched r q w t first later) =
-    Search q w t first × Call-taken first × Search q w (rotated r t) later × Call-taken later × Lent-as-long first later
+    Any-search q w t first × Call-taken first × Any-search q w (rotated r t) later × Call-taken later × Lent-as-long first later
+Holds (alike-where-compared w t u) = Alike w t u
+Holds (both-paired q w t u first other) =
+    Any-search q w t first × Call-taken first × Any-search q w u other × Call-taken other × (length u ≡ length t) × Alike w t u
+Holds (shorthand-is w i k) = shorthand w i ≡ k
+Holds (shift-loses w t b i k lost) = (explanation-in b w t ≡ Tried i) × (explanation-in lost w t ≡ Listed) × (b < lost) × (lost < b + k)
+Holds (both-explained position w t u first other) =
+    Explains position w t first × Explains position w u other × (length u ≡ length t) × Alike w t u
+Holds (both-priced q w t u first other) = Priced q w t first × Priced q w u other × (length u ≡ length t) × Alike w t u
+Holds (refuted wrong) = Holds wrong → ⊥
 
 -- a row: its number, up to 10 that of document 01, and what it claims
 pub record Example : Type 0 where
@@ -235,7 +273,7 @@ abbrev left-by-one : Tables
 left-by-one = tables (pos 0 ∷ negsuc 0 ∷ pos 9 ∷ []) (0 ∷ 1 ∷ 9 ∷ []) (replicate 256 1 ++ (9 ∷ [])) (0 ∷ 9 ∷ [])
 
 -- the same with the tables of a c, and of a c a c a c, which repeats
-abbrev left-by-ac : Tables
+abbrev pub left-by-ac : Tables
 left-by-ac =
     tables (pos 1 ∷ pos 0 ∷ negsuc 0 ∷ pos 9 ∷ []) (0 ∷ 2 ∷ 2 ∷ 9 ∷ []) (replicate 12 2 ++ (1 ∷ 1 ∷ []) ++ replicate 498 2 ++ (9 ∷ []))
     (0 ∷ 0 ∷ 9 ∷ [])
@@ -267,6 +305,9 @@ aaaa = a ∷ a ∷ a ∷ a ∷ []
 abbrev aac : List ℕ
 aac = a ∷ a ∷ c ∷ []
 
+abbrev bac : List ℕ
+bac = b ∷ a ∷ c ∷ []
+
 -- a pattern with m = 3 × p
 abbrev acacac : List ℕ
 acacac = a ∷ c ∷ a ∷ c ∷ a ∷ c ∷ []
@@ -284,6 +325,19 @@ acaacaacaac = a ∷ c ∷ a ∷ a ∷ c ∷ a ∷ a ∷ c ∷ a ∷ a ∷ c ∷ 
 
 abbrev accaaccaaccaacc : List ℕ
 accaaccaaccaacc = (a ∷ c ∷ c ∷ a ∷ []) ++ (a ∷ c ∷ c ∷ a ∷ []) ++ (a ∷ c ∷ c ∷ a ∷ []) ++ (a ∷ c ∷ c ∷ [])
+
+-- a search of a a c for a c, and one that is refused, with no room for its finds
+abbrev searched-aac : Call
+searched-aac =
+    call (buffers (lent (room 4 4 513 3)) (replicate 4 9) []) (buffers left-by-ac (1 ∷ 9 ∷ 9 ∷ 9 ∷ []) []) (answer 0 1 3 0 2 6)
+
+abbrev refused-call : Call
+refused-call = call (buffers left-by-ac [] []) (buffers left-by-ac [] []) (zeros-beside 7)
+
+-- a call of `price` for the same
+abbrev priced-aac : (pence : ℕ) → Price-call
+priced-aac p =
+    record { lent = lent (room 4 4 513 3); left = left-by-ac; found = replicate 3 9; found' = 1 ∷ 9 ∷ 9 ∷ []; answer = price-answered 0 p }
 
 -- a comparison (look), by its pattern position (motif place) and its text position (chain place)
 abbrev pair : (i x : ℕ) → Comparison
@@ -477,10 +531,13 @@ examples =
     ∷ turning-gives 2 1 0 1 1 1 0
     ∷ turning-gives 3 128 127 16384 128 16384 0
     ∷ turning-gives 4 1 0 1 1 1 8
+    ∷ turning-gives 256 1 0 1 1 1 8
     ∷ turning-gives 4294967295 1 0 1 1 1 8
     ∷ turning-gives 4 0 0 16385 0 0 8
     ∷ turning-gives 3 0 0 16385 0 0 4
     ∷ turning-gives 3 129 0 0 129 0 4
+    ∷ turning-gives 0 1 1 16385 0 0 5
+    ∷ turning-gives 1 1 1 16385 0 0 5
     ∷ turning-gives 3 1 1 16385 0 0 5
     ∷ turning-gives 3 1 0 16385 0 0 6
     ∷ turning-gives 3 1 0 1 0 1 7
@@ -593,12 +650,14 @@ examples =
     ∷ pricing-gives 1 0 1 (room 2 2 256 1) 0 7
     ∷ pricing-gives 1 0 1 (room 2 2 256 1) 1 0
     ∷ [])
-    -- A word of eight cards, and the holes of one card more
+    -- A word of eight cards, and the holes of one card more. 8,192 cards FF have 65,536 holes
     ∷ row 27
     (word-is (0x01 ∷ 0x02 ∷ 0x03 ∷ 0x04 ∷ 0x05 ∷ 0x06 ∷ 0x07 ∷ 0x08 ∷ []) 0x0807060504030201
     ∷ word-is (replicate 8 0xFF) 0xFFFFFFFFFFFFFFFF
     ∷ word-is (0x80 ∷ []) 0x80
     ∷ ones-are (0x01 ∷ 0x02 ∷ 0x03 ∷ 0x04 ∷ 0x05 ∷ 0x06 ∷ 0x07 ∷ 0x08 ∷ 0x09 ∷ []) 15
+    ∷ ones-are (replicate 8192 0xFF) 65536
+    ∷ answers-are (count-answer (replicate 8192 0xFF)) (answer 0 0 0 65536 0 0)
     ∷ [])
     -- Document 02, "Write out the period and the bound": searching and converting work out p and the bound, preparing only p. The bound is 0 for
     -- an empty chain alone, where p is given too. A job turned away has zeros there. For m at least 3 × p the bound is that of "Long repeats"
@@ -644,12 +703,15 @@ examples =
     ∷ reporting-leaves "" (replicate 6 9) (bytes "FF01\n" ++ (9 ∷ [])) (report-answered 0 5)
     ∷ [])
     -- Document 02, "Long repeats": for a a c a a c a a c a a (p 3) Δ3(9) is 7; in a chain of 21 cards made of two copies sharing one card 10 is a find
+    -- Document 002's shorthand for Δ3(9) gives 10: from 3, where place 9 differs, it goes past 10
     ∷ row 30
     (period-is aacaacaacaa 3
     ∷ stored-Δ3-is aacaacaacaa (replicate 8 0 ++ (9 ∷ 7 ∷ 0 ∷ []))
     ∷ occurrences-are aacaacaacaa two-sharing-one (0 ∷ 10 ∷ [])
     ∷ comparisons-are aacaacaacaa two-sharing-one 25
     ∷ bound-is aacaacaacaa two-sharing-one 51
+    ∷ shorthand-is aacaacaacaa 9 10
+    ∷ shift-loses aacaacaacaa two-sharing-one 3 9 (shorthand aacaacaacaa 9) 10
     ∷ [])
     -- Δ3(i) goes into entry i of a lent buffer of m entries, under 7, with 0 wherever it is not defined; it is defined for i from m - p to m - 2
     -- where m is at least 3 × p
@@ -812,6 +874,103 @@ examples =
     (call (buffers (lent (room 4 4 513 3)) (replicate 3 9) []) (buffers left-by-ac (1 ∷ 9 ∷ 9 ∷ []) []) (answer 0 1 3 0 2 4))
     (call (buffers left-by-ac (1 ∷ 9 ∷ 9 ∷ []) []) (buffers left-by-ac (0 ∷ 9 ∷ 9 ∷ []) []) (answer 0 1 2 0 2 4))
     ∷ [])
+    -- Demand 3: rings a a c and b a c differ only at place 0, where a search for a c never looks.
+    -- The looks are the same. Two calls of `search` and two of `convert` meet the premise
+    ∷ row 39
+    (comparisons-in-order (a ∷ c ∷ []) aac (pair 1 1 ∷ pair 1 2 ∷ pair 0 1 ∷ [])
+    ∷ comparisons-in-order (a ∷ c ∷ []) bac (pair 1 1 ∷ pair 1 2 ∷ pair 0 1 ∷ [])
+    ∷ alike-where-compared (a ∷ c ∷ []) aac bac
+    ∷ both-paired 1 (a ∷ c ∷ []) aac bac
+    searched-aac
+    (call (searched-aac .left) (searched-aac .left) (answer 0 1 3 0 2 6))
+    ∷ both-paired 1 (a ∷ c ∷ []) aac bac
+    (call (buffers (lent (room 4 4 513 3)) (replicate 3 9) (replicate 4 9)) (buffers left-by-ac (1 ∷ 9 ∷ 9 ∷ []) (a ∷ a ∷ 256 ∷ 9 ∷ [])) (answer 0 1 3 6 2 6))
+    (call (buffers left-by-ac (1 ∷ 9 ∷ 9 ∷ []) (a ∷ a ∷ 256 ∷ 9 ∷ [])) (buffers left-by-ac (1 ∷ 9 ∷ 9 ∷ []) (b ∷ a ∷ 256 ∷ 9 ∷ [])) (answer 0 1 3 5 2 6))
+    ∷ both-explained 0 (a ∷ c ∷ []) aac bac (explain-answered 0 2 1 0 0) (explain-answered 0 2 1 0 0)
+    ∷ both-explained 1 (a ∷ c ∷ []) aac bac (explain-answered 0 1 0 0 0) (explain-answered 0 1 0 0 0)
+    ∷ both-explained 2 (a ∷ c ∷ []) aac bac (explain-answered 0 3 0 1 3) (explain-answered 0 3 0 1 3)
+    ∷ both-priced 1 (a ∷ c ∷ []) aac bac (priced-aac 58) (priced-aac 57)
+    ∷ [])
+    -- a c c b c c: order 5, 4, 3, 0, 1, 2, -1. By rising k_min, not rising h: k_min(4) is 1, not 4,
+    -- and k_min(3) is 3, since h may be k
+    ∷ row 40 (order-is (a ∷ c ∷ c ∷ b ∷ c ∷ c ∷ []) (pos 5 ∷ pos 4 ∷ pos 3 ∷ pos 0 ∷ pos 1 ∷ pos 2 ∷ negsuc 0 ∷ []) ∷ [])
+    -- One wrong claim of each kind, in the order of the kinds, then some that are wrong in another
+    -- part. None holds, so no kind is void
+    ∷ row 41
+    (map refuted
+    (period-is aacaa 2
+    ∷ order-is aacaa (pos 4 ∷ pos 3 ∷ pos 0 ∷ pos 1 ∷ pos 2 ∷ [])
+    ∷ Δ2-from-2-is aacaa (1 ∷ 3 ∷ 3 ∷ 3 ∷ [])
+    ∷ Δ1-is aacaa c 1 1
+    ∷ stored-Δ3-is acacac (replicate 4 0 ++ (6 ∷ []))
+    ∷ occurrences-are aacaa listing (0 ∷ [])
+    ∷ comparisons-are aacaa listing 14
+    ∷ comparisons-in-order (a ∷ c ∷ []) aac (pair 1 1 ∷ pair 1 2 ∷ [])
+    ∷ bound-is aacaa listing 20
+    ∷ ones-are (0xFF ∷ []) 7
+    ∷ word-is (0x01 ∷ 0x00 ∷ []) 0x0100
+    ∷ job-file-is 0 (c ∷ []) [] "0101000000\n18"
+    ∷ seek-prints "" "FF01"
+    ∷ file-gives "0200000000\n" 4
+    ∷ job-gives 1 1 0 0
+    ∷ reading-gives "0101000000\n0A\n" 0 0 0
+    ∷ writing-gives 1 0 0 13 0
+    ∷ preparing-gives 0 (needed 0) 0
+    ∷ searching-gives 1 1 (needed 1) 0 0
+    ∷ converting-gives 1 1 0 (needed 1) 0 0 0
+    ∷ needed-are 1 (room 2 2 256 0)
+    ∷ counting-gives 16385 0
+    ∷ reporting-gives 5 4 0
+    ∷ answers-are (count-answer (0xFF ∷ [])) (answer 0 0 0 7 0 0)
+    ∷ turned-are 2 (a ∷ b ∷ []) (a ∷ b ∷ [])
+    ∷ frames-are 0 (a ∷ []) (a ∷ []) (a ∷ [])
+    ∷ turning-gives 4 1 0 1 1 1 0
+    ∷ turning-leaves 0 2 (b ∷ a ∷ []) (1 ∷ 2 ∷ []) (1 ∷ 2 ∷ [])
+    ∷ turn-answers-are (turn-answer 0 2 4 0) (turn-answered 0 0)
+    ∷ restoring-gives 0 (a ∷ []) (257 ∷ []) 1 0
+    ∷ restoring-leaves 0 (c ∷ []) (256 ∷ []) (1 ∷ []) (1 ∷ []) (zeros-beside 0)
+    ∷ job-costs 0 aac [] 1
+    ∷ frames-cost (0x00 ∷ []) (256 ∷ []) 3
+    ∷ rebate-is 4097 20 0
+    ∷ pricing-gives 1 1 0 (needed 1) 0 0
+    ∷ pricing-leaves 0 (c ∷ []) [] lent-to-one left-by-one (9 ∷ []) (9 ∷ []) (price-answered 0 1)
+    ∷ preparing-leaves (c ∷ []) lent-to-one left-by-one (zeros-beside 0)
+    ∷ searching-leaves (c ∷ []) (c ∷ []) lent-to-one left-by-one (9 ∷ []) (9 ∷ []) (answer 0 1 1 0 1 1)
+    ∷ converting-leaves 0 (c ∷ []) [] lent-to-one left-by-one (9 ∷ []) (9 ∷ []) (9 ∷ []) (256 ∷ []) (answer 0 0 0 0 1 0)
+    ∷ reading-leaves "" (9 ∷ []) (9 ∷ []) [] [] (read-answered 0 0 0 0)
+    ∷ writing-leaves 0 (c ∷ []) [] [] [] (write-answered 0 0)
+    ∷ turning-both-leaves 4 0 (b ∷ []) [] (9 ∷ []) (9 ∷ []) [] [] (turn-answered 0 0)
+    ∷ reporting-leaves "" [] [] (report-answered 0 0)
+    ∷ explanation-is aacaa listing 3 (Tried 4)
+    ∷ numbers-are (Tried 3) (explain-answered 0 2 0 0 0)
+    ∷ explaining-gives 5 9 9 (needed 5) 0
+    ∷ explaining-leaves 3 (c ∷ []) cac lent-to-one lent-to-one (explain-answered 0 0 0 0 0)
+    ∷ rotated-are 1 (a ∷ b ∷ []) (a ∷ b ∷ [])
+    ∷ rotated-positions-are 3 1 (0 ∷ []) (0 ∷ [])
+    ∷ both-searched 3 1 (a ∷ c ∷ []) aac searched-aac refused-call
+    ∷ alike-where-compared (a ∷ c ∷ []) aac (replicate 3 a)
+    ∷ both-paired 1 (a ∷ c ∷ []) aac (replicate 3 a) searched-aac (call (searched-aac .left) (searched-aac .left) (answer 0 0 3 0 2 6))
+    ∷ shorthand-is aacaacaacaa 9 7
+    ∷ shift-loses aacaacaacaa two-sharing-one 3 9 (Δ3 aacaacaacaa 9) 10
+    ∷ both-explained 0 (a ∷ c ∷ []) aac bac (explain-answered 0 2 1 0 0) (explain-answered 10 0 0 0 0)
+    ∷ both-priced 1 (a ∷ c ∷ []) aac bac (priced-aac 58) (priced-aac 58)
+    ∷ refuted (period-is aacaa 3)
+    ∷ preparing-leaves (c ∷ []) lent-to-one lent-to-one (answer 0 0 0 0 1 0)
+    ∷ searching-leaves (c ∷ []) (c ∷ []) lent-to-one left-by-one (9 ∷ []) (0 ∷ []) (answer 0 0 1 0 1 1)
+    ∷ converting-leaves 0 (c ∷ []) [] lent-to-one left-by-one (9 ∷ []) (9 ∷ []) (9 ∷ []) (9 ∷ []) (answer 0 0 0 0 2 0)
+    ∷ restoring-leaves 0 (c ∷ []) (256 ∷ []) (1 ∷ []) (c ∷ []) (zeros-beside 9)
+    ∷ pricing-leaves 0 (c ∷ []) [] lent-to-one lent-to-one (9 ∷ []) (9 ∷ []) (price-answered 0 0)
+    ∷ reading-leaves "0101000000\n18\n" (9 ∷ []) (9 ∷ []) [] [] (read-answered 0 1 0 0)
+    ∷ writing-leaves 0 (c ∷ []) [] (replicate 14 9) (replicate 14 9) (write-answered 0 14)
+    ∷ turning-both-leaves 2 0 (b ∷ []) [] (9 ∷ []) (9 ∷ []) [] [] (turn-answered 0 0)
+    ∷ reporting-leaves "" (replicate 5 9) (replicate 5 9) (report-answered 0 5)
+    ∷ explaining-leaves 2 (c ∷ []) cac lent-to-one lent-to-one (explain-answered 0 1 0 0 0)
+    ∷ both-searched 3 1 (a ∷ c ∷ []) aac searched-aac (call (buffers left-by-ac (1 ∷ 9 ∷ 9 ∷ []) []) (buffers left-by-ac (1 ∷ 9 ∷ 9 ∷ []) []) (answer 0 1 3 0 2 6))
+    ∷ both-paired 1 (a ∷ c ∷ []) aac bac searched-aac refused-call
+    ∷ both-explained 0 (a ∷ c ∷ []) aac (replicate 3 a) (explain-answered 0 2 1 0 0) (explain-answered 0 2 1 0 0)
+    ∷ both-priced 1 (a ∷ c ∷ []) aac (replicate 3 a) (priced-aac 58) (priced-aac 18)
+    ∷ both-paired 1 (a ∷ c ∷ []) aac (b ∷ a ∷ c ∷ b ∷ []) searched-aac (call (searched-aac .left) (searched-aac .left) (answer 0 1 4 0 2 8))
+    ∷ []))
     ∷ []
 
 -- each member of a list has a property

@@ -9,15 +9,15 @@ use Rattle.reader.proofs.pair.Statement.{statement}
 use Rattle.reader.proofs.pair.Tie as tie
 
 -- the place where the high digit's value is known, from the place where the low one's is too
-abbrev high : tie.After-ones → tie.After-sixteens
+abbrev high : tie.After-units → tie.After-sixteens
 high c = c .before .before .before .before
 
 -- each value is below 16
-small : (c : tie.After-ones) → (high c .sixteens .given .0 .0 < 16) × (c .ones .given .0 .0 < 16)
+small : (c : tie.After-units) → (high c .sixteens .given .0 .0 < 16) × (c .units .given .0 .0 < 16)
 small c =
     let d = high c in (
       digit-below _ _ (d .before .before .digit-value .ensures) _ (d .sixteens .given .1),
-      digit-below _ _ (c .before .before .digit-value2 .ensures) _ (c .ones .given .1),
+      digit-below _ _ (c .before .before .digit-value2 .ensures) _ (c .units .given .1),
     )
 
 returns-3 : tie.Need-returns-3
@@ -25,7 +25,7 @@ returns-3 c =
     let low = c .before in
     let d = high low in
     let (high-good, high-is) = value-read _ _ _ (d .before .before .digit-value .ensures) _ (d .sixteens .given .1) in
-    let (low-good, low-is) = value-read _ _ _ (low .before .before .digit-value2 .ensures) _ (low .ones .given .1) in
+    let (low-good, low-is) = value-read _ _ _ (low .before .before .digit-value2 .ensures) _ (low .units .given .1) in
     taken _ _ _ (rw (high-good, low-good)) (omega arith)
 
 pub pair-spec : {M : Type 1} → statement M

@@ -9,10 +9,9 @@ use borrow.Author.Needs.{needs}
 use borrow.Author.Tests.{lt-ltb, le-ltb}
 use lib.ListN.{length, take, drop}
 use lib.Seq.{length-take-le}
-use Rattle.answers.proofs.Refusals.{Within-limits}
 use Rattle.answers.specs.Answers.{status-only, if-done}
 use Rattle.answers.specs.Buffers.{in-front}
-use Rattle.answers.specs.Refusals.{first-of}
+use Rattle.answers.specs.Refusals.{first-of, Within-limits}
 use Rattle.job.proofs.Lengths.{length-bytes}
 use Rattle.reader.proofs.Reading.{good-read, refused-is, lines-both}
 use Rattle.job.proofs.Taken.{Readable, readable}

@@ -6,8 +6,8 @@ use mathlib.Core.Path.{_≡_, sym, _∙_}
 use native.Mathlib.Omega.{arith}
 use borrow.Author.Needs.{needs}
 use borrow.Author.Tests.{lt-ltb, le-ltb, eq-eqb, ne-eqb, not-true, not-false}
-use Rattle.answers.proofs.Refusals.{Within-limits, job-refused, job-within, job-past}
-use Rattle.answers.specs.Refusals.{Refusal, first-of, buffer-refusal}
+use Rattle.answers.proofs.Refusals.{job-refused, job-within, job-past}
+use Rattle.answers.specs.Refusals.{Refusal, first-of, Within-limits, buffer-refusal}
 use Rattle.reader.proofs.Reading.{size-refusals, other-edition, edition-read}
 use Rattle.reader.proofs.status_of.Statement.{statement}
 use Rattle.reader.proofs.status_of.Tie as tie

@@ -5,8 +5,8 @@ use mathlib.Core.Path.{_≡_, sym, ap, _∙_}
 use borrow.Author.Needs.{needs}
 use borrow.Author.Tests.{lt-ltb}
 use lib.ListN.{length}
-use Rattle.answers.proofs.Refusals.{Within-limits, job-refused, job-past, job-within}
-use Rattle.answers.specs.Refusals.{first-of}
+use Rattle.answers.proofs.Refusals.{job-refused, job-past, job-within}
+use Rattle.answers.specs.Refusals.{first-of, Within-limits}
 use Rattle.restore.proofs.Taken.{tested}
 use Rattle.restore.proofs.restore_status.Statement.{statement}
 use Rattle.restore.proofs.restore_status.Tie as tie

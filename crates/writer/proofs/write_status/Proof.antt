@@ -2,8 +2,8 @@
 -- Assumes nothing.
 use native.Mathlib.Omega.{arith}
 use borrow.Author.Tests.{lt-ltb, le-ltb}
-use Rattle.answers.proofs.Refusals.{Within-limits, job-refused, job-within, job-past}
-use Rattle.answers.specs.Refusals.{first-of}
+use Rattle.answers.proofs.Refusals.{job-refused, job-within, job-past}
+use Rattle.answers.specs.Refusals.{first-of, Within-limits}
 use Rattle.writer.proofs.write_status.Statement.{statement}
 use Rattle.writer.proofs.write_status.Tie as tie
 use Rattle.job.specs.Write.{write-status}

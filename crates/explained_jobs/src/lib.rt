@@ -1,0 +1,1 @@
+// Positions that are explained, by calls: statements in specs/, and their proofs in proofs/.
