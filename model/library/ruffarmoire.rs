@@ -15,6 +15,10 @@ use ruffarmoire_model::answers::{
 };
 use ruffarmoire_model::explain::{Explained, Unexplained};
 
+/// The stack, in bytes, that a thread needs to call `seek_report`. For every other call 8 KiB are
+/// enough.
+pub const REPORT_STACK: usize = 192 * 1024;
+
 mod foreign {
     use super::{
         Answer, ExplainAnswer, PriceAnswer, ReadAnswer, ReportAnswer, TurnAnswer, WriteAnswer,
@@ -283,6 +287,7 @@ pub fn count_ones(text: &[u8]) -> Answer {
     unsafe { foreign::count_ones(text.as_ptr(), text.len()) }
 }
 
+/// Keeps the job, its tables and its buffers on the stack: the thread needs `REPORT_STACK` bytes.
 pub fn seek_report(file: &[u8], out: &mut [u8]) -> ReportAnswer {
     // SAFETY: each pointer and length is that of a slice that stays borrowed during the call.
     unsafe { foreign::seek_report(file.as_ptr(), file.len(), out.as_mut_ptr(), out.len()) }

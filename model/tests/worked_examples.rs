@@ -50,6 +50,14 @@ fn example_2_tables() {
     assert_eq!(tables.delta2, [0, 1, 5, 5, 5, 5]);
 }
 
+/// By rising k_min, not by rising h: k_min(4) is 1, the least of 1 and 4, and k_min(3) is 3, as h may
+/// be k.
+#[test]
+fn order_by_least_shifts() {
+    let tables = Tables::of(&[A, C, C, B, C, C]);
+    assert_eq!(tables.order, [5, 4, 3, 0, 1, 2, -1]);
+}
+
 #[test]
 fn example_3_shift_after_the_last_byte() {
     let pattern = [A, A, C, A, A];
@@ -100,6 +108,52 @@ fn example_9_text_shorter_than_the_pattern() {
 fn example_10_ones() {
     assert_eq!(convert::ones(&[0xFF, 0x00]), 8);
     assert_eq!(calls::count_ones(&[0xFF, 0x00]).ones, 8);
+}
+
+/// More ones than 16 bits hold, in counting and in converting.
+#[test]
+fn ones_above_16_bits() {
+    let text = [0xFF; 8_192];
+    assert_eq!(convert::ones(&text), 65_536);
+    assert_eq!(calls::count_ones(&text).ones, 65_536);
+    let lengths = TableLengths::needed(1);
+    let converted = calls::convert(0, &[A], &text, lengths, 8_192, 8_192);
+    assert_eq!(converted.answer.ones, 65_536);
+}
+
+/// Demand 3: rings that differ only at position 0, where no comparison is made, and one that differs
+/// where one is.
+#[test]
+fn rings_alike_where_compared() {
+    let made = |text: &[u8]| -> Vec<(usize, usize)> {
+        let made = search(&[A, C], text).comparisons.into_iter();
+        made.map(|made| (made.pattern_position, made.text_position))
+            .collect()
+    };
+    for text in [[A, A, C], [B, A, C]] {
+        assert_eq!(made(&text), [(1, 1), (1, 2), (0, 1)]);
+        check_search(&[A, C], &text, &[1], 3);
+        let frames = [text[0].into(), 6, 256];
+        assert_eq!(convert::frames(&[A, C], 1, &text), frames);
+    }
+    assert_eq!(made(&[A, A, A]), [(1, 1), (1, 2), (1, 3)]);
+    check_search(&[A, C], &[A, A, A], &[], 3);
+}
+
+/// A way above 3, also one whose last byte is a way; and q as m, in every way.
+#[test]
+fn refusals_of_turning() {
+    let status = |way: u32, hold: u32| {
+        let turned = calls::turn(way, hold, &[A], &[A], 1, 1);
+        turned.answer.answer.status
+    };
+    for way in 0..4 {
+        assert_eq!(status(way, 0), 0);
+        assert_eq!(status(way, 1), 5);
+    }
+    for way in [4, 256, u32::MAX] {
+        assert_eq!(status(way, 1), 8);
+    }
 }
 
 /// The searches whose period and bound are written out, by each call that works one out, and in

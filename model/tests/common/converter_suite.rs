@@ -136,7 +136,21 @@ pub fn worked_examples<T: ConverterCalls>() {
         (outcome.occurrences, outcome.frames),
         (vec![0], vec![256, 0x18])
     );
+    // Rings that differ only where no comparison is made have the same occurrences and holds.
+    for text in [[A, A, C], [0x01, A, C]] {
+        let outcome = check_exact::<Convert<T>>(Input::new(1, &[A, C], &text));
+        assert_eq!(
+            (outcome.answer.comparisons, outcome.occurrences),
+            (3, vec![1])
+        );
+        assert_eq!(outcome.frames, [text[0].into(), 6, 256]);
+    }
     assert_eq!(check_ones::<T>(&[0xFF, 0x00]).ones, 8);
+    // More ones than 16 bits hold.
+    let text = [0xFF; 8_192];
+    assert_eq!(check_ones::<T>(&text).ones, 65_536);
+    let outcome = check_exact::<Convert<T>>(Input::new(0, &[A], &text));
+    assert_eq!(outcome.answer.ones, 65_536);
 }
 
 /// A conversion with one hold, at this position.

@@ -78,4 +78,8 @@ pub fn worked_examples<T: MatcherCalls>() {
     // Positions 4 and 2 agree and 3 differs; the next alignment is five on.
     let text = [C, C, A, C, A, C, B, A, A, A];
     expect(&[C, B, A, A, A], &text, &[5], 8);
+    // Rings that differ only where no comparison is made, and one that differs where one is.
+    expect(&[A, C], &[A, A, C], &[1], 3);
+    expect(&[A, C], &[B, A, C], &[1], 3);
+    expect(&[A, C], &[A, A, A], &[], 3);
 }

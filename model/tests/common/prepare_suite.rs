@@ -100,6 +100,12 @@ pub fn worked_examples<T: PrepareCalls>() {
         &[5, 2, 3, 4, 0, 1, -1],
         &[0, 1, 3, 6, 6, 6, 6],
     );
+    expect(
+        &[A, C, C, B, C, C],
+        6,
+        &[5, 4, 3, 0, 1, 2, -1],
+        &[0, 1, 3, 6, 6, 6, 6],
+    );
     let outcome = check_prepare::<T>(&[A, A, C, A, A], TableLengths::needed(5));
     let shift = |s: usize| outcome.delta1[usize::from(C) * 5 + s - 1];
     assert_eq!([shift(1), shift(2), shift(5)], [2, 5, 2]);

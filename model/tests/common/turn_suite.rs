@@ -225,6 +225,13 @@ pub fn worked_examples<T: TurnCalls>() {
     for (way, expected) in jobs.iter().enumerate() {
         assert_eq!(turned::<T>(way as u32, &jobs[0]), *expected);
     }
+    // A way whose last byte is a way, and q as m in every way.
+    let input = Input::new(256, 0, &[0x06], &[0x06]);
+    assert_eq!(check::<T>(input, input.needed()), 8);
+    for way in 0..4 {
+        let input = Input::new(way, 1, &[0x06], &[0x06]);
+        assert_eq!(check::<T>(input, input.needed()), 5);
+    }
 }
 
 pub fn generated_jobs<T: TurnCalls>() {
