@@ -1,10 +1,18 @@
-// What every call answers, beside what a call adds of its own, and the refusals that whoever drew the job can cause.
+// What every call answers, beside what a call adds of its own, and the refusals that whoever drew
+// the job can cause.
 ghost use mathlib.Core.Path.{_≡_};
 ghost use mathlib.Core.List.{[], _∷_};
 ghost use Rattle.answers.specs.Answers.{status-only, prepared, searched, converted, counted};
 ghost use Rattle.answers.specs.Refusals.{first-of, text-refusal, rule-refusals, job-refusals};
 
-// Document 01's answer, with document 02's period and bound. What a call does not work out is 0 in it, and a refused call answers zeros beside its status.
+// The most bytes (cards) of a pattern (motif).
+pub const LONGEST_PATTERN: usize = 128;
+
+// The most bytes (cards) of a text (chain).
+pub const LONGEST_TEXT: usize = 16384;
+
+// Document 01's answer, with document 02's period and bound. What a call does not work out is 0 in
+// it, and a refused call answers zeros beside its status.
 #[repr(C)]
 pub struct Answer {
     // the number: 0 for done, or that of the refusal
@@ -63,7 +71,8 @@ pub fn searched(occurrences: u32, comparisons: u32, period: u32, bound: u32) -> 
     }
 }
 
-// The answer of a call that has converted: what its search answers, and the ones of the text (the holes of the chain).
+// The answer of a call that has converted: what its search answers, and the ones of the text (the
+// holes of the chain).
 pub fn converted(search: Answer, ones: u32) -> Answer
     ensures { λ r. ⌜ r ≡ converted search ones ⌝ }
 {
@@ -95,7 +104,7 @@ pub fn counted(ones: u32) -> Answer
 pub fn rule_status(m: usize, hold_offset: usize) -> u32
     ensures { λ r. ⌜ r ≡ first-of (rule-refusals m «hold_offset») ⌝ }
 {
-    if m == 0 || 128 < m {
+    if m == 0 || LONGEST_PATTERN < m {
         return 4;
     }
     if m <= hold_offset {
@@ -108,7 +117,7 @@ pub fn rule_status(m: usize, hold_offset: usize) -> u32
 pub fn text_status(n: usize) -> u32
     ensures { λ r. ⌜ r ≡ first-of (text-refusal n ∷ []) ⌝ }
 {
-    if 16384 < n {
+    if LONGEST_TEXT < n {
         return 6;
     }
     0

@@ -12,12 +12,12 @@ use Rattle.answers.specs.declared.Answer.{Answer}
 use Rattle.tables.specs.Buffers.{Tables, lengths, table-refusal, tables-left}
 use Rattle.tables.specs.Prepare.{prepare-status}
 use Rattle.steps.specs.Text.{shown, span}
-use Rattle.explanations.proofs.Meaning.{one-explanation}
+use Rattle.explain_meaning.proofs.Meaning.{one-explanation}
 use Rattle.explain_answers.specs.Answer.{explained}
-use Rattle.explanations.specs.Promises.{One-explanation}
+use Rattle.explain_meaning.specs.Promises.{One-explanation}
 use Rattle.explain_answers.specs.declared.ExplainAnswer.{ExplainAnswer}
 use Rattle.explain.proofs.Taken.{Explain-fit, explain-fit}
-use Rattle.explanations.specs.Explanation.{explanation-in}
+use Rattle.explain_meaning.specs.Explanation.{explanation-in}
 use Rattle.explain.specs.Explain.{position-refusal, explain-status, explain-status-of, explain-answer, Explain-outcome}
 use Rattle.explain.specs.Promises.{Answer-true, As-prepared}
 

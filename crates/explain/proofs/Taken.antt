@@ -18,11 +18,11 @@ use Rattle.tables.specs.declared.TableLengths.{TableLengths}
 use Rattle.tables.specs.Tables.{period, stored-order, stored-Δ2, stored-Δ1, stored-Δ3}
 use Rattle.steps.proofs.Text.{span-reaches}
 use Rattle.steps.specs.Text.{span}
-use Rattle.progress.specs.Progress.{Taken}
+use Rattle.alignment.specs.Ready.{Taken}
 use Rattle.explain_answers.specs.Answer.{explained, refused}
 use Rattle.explain_answers.specs.declared.Explanation.{Explanation}
-use Rattle.walk.specs.Walk.{Walk-ready}
-use Rattle.explanations.specs.Explanation.{explanation-in}
+use Rattle.explain_walk.specs.Reach.{Reach-ready}
+use Rattle.explain_meaning.specs.Explanation.{explanation-in}
 use Rattle.explain.specs.Explain.{position-refusal, explain-status, explain-status-of, explain-answer, Explain-outcome-of}
 
 -- 4, 6 and 7 are tested first, as they are measured among 4 to 7, and 10 after them
@@ -49,6 +49,10 @@ module _ (m n b : ℕ) (l : TableLengths) {s : ℕ} (measured : s ≡ measured-s
   pub status-done : s ≡ 0 → b < n → 0 ≡ explain-status m n b l
   unfolding first-of
   status-done e inside = sym (status-past e ∙ rw (lt-leb n b inside))
+
+-- l' are the buffers' lengths
+pub status-is : (m n b : ℕ) {s : ℕ} {l l' : TableLengths} → s ≡ explain-status m n b l → l ≡ l' → s ≡ explain-status m n b l'
+status-is m n b measured e = rw e at measured
 
 -- a call is taken
 pub record Explain-fit (w t : List ℕ) (b : ℕ) (lent : Tables) : Type 0 where
@@ -77,8 +81,8 @@ module _ {w t : List ℕ} {b : ℕ} {lent : Tables} where
 
   module _ {left : Tables} (written : Tables-written w lent left) where
     -- the walk can go by the tables that are written
-    pub walk-ready : {p : ℕ} → Explain-fit w t b lent → p ≡ period w → Walk-ready w t (left .order) (left .delta2) (left .delta1) (left .delta3) p b
-    walk-ready r period-is =
+    pub reach-ready : {p : ℕ} → Explain-fit w t b lent → p ≡ period w → Reach-ready w t (left .order) (left .delta2) (left .delta1) (left .delta3) p b
+    reach-ready r period-is =
         let taken : Taken w t = record { some = r .tables .taken .some; few = r .tables .taken .few; text = r .text } in
         record {
           rows = record {

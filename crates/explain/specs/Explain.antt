@@ -9,7 +9,7 @@ use Rattle.answers.specs.Refusals.{Refusal, refuse, first-of, pattern-refusal, 
 use Rattle.tables.specs.Buffers.{Tables, lengths, table-refusal, tables-left}
 use Rattle.tables.specs.declared.TableLengths.{TableLengths}
 use Rattle.explain_answers.specs.Answer.{explained, refused}
-use Rattle.explanations.specs.Explanation.{explanation-in}
+use Rattle.explain_meaning.specs.Explanation.{explanation-in}
 use Rattle.explain_answers.specs.declared.ExplainAnswer.{ExplainAnswer}
 
 -- 10: b of n or more

@@ -8,7 +8,7 @@ use Rattle.tables.specs.Buffers.{Tables}
 use Rattle.tables.specs.Prepare.{Prepare-outcome}
 use Rattle.steps.specs.Text.{shown, span}
 use Rattle.explain_answers.specs.Answer.{explained}
-use Rattle.explanations.specs.Promises.{True-of}
+use Rattle.explain_meaning.specs.Promises.{True-of}
 use Rattle.explain_answers.specs.declared.ExplainAnswer.{ExplainAnswer}
 use Rattle.explain_answers.specs.declared.Explanation.{Explanation}
 use Rattle.explain.specs.Explain.{Explain-outcome}

@@ -1,8 +1,10 @@
-// Why a position has no hold, as one call: the tables worked out anew, and the position explained by them.
+// Why a position has no hold, as one call: the tables worked out anew, and the position explained
+// by them.
 use explain_answers::ExplainAnswer;
 use tables::TableLengths;
 ghost use mathlib.Core.Path.{_≡_};
-ghost use Rattle.tables.specs.Buffers.{tables};
+ghost use Rattle.answers.specs.Contracts.{before};
+ghost use Rattle.tables.specs.Buffers.{tables, lent, left};
 ghost use Rattle.explain.specs.Explain.{explain-status, explain-status-of, Explain-outcome};
 
 // The status of explaining: 4, 6 and 7, then 10.
@@ -19,7 +21,7 @@ fn status_of(m: usize, n: usize, position: u32, lengths: TableLengths) -> u32
     0
 }
 
-// Explains a position where nothing is left to measure. It is public for the crates whose calls explain and have measured all that they take.
+// Explains a position where nothing is left to measure.
 pub fn explain_within(
     position: u32,
     pattern: &[u8],
@@ -29,19 +31,19 @@ pub fn explain_within(
     delta1: &mut [u16],
     delta3: &mut [u16],
 ) -> ExplainAnswer
-    requires { ⌜ explain-status-of position (now pattern) (now text) (tables (now order) (now delta2) (now delta1) (now delta3)) ≡ 0 ⌝ }
-    ensures { λ r. ⌜ Explain-outcome position (now (pattern .entry)) (now (text .entry))
-        (tables (now (order .entry)) (now (delta2 .entry)) (now (delta1 .entry)) (now (delta3 .entry)))
-        (tables (now (order .exit)) (now (delta2 .exit)) (now (delta1 .exit)) (now (delta3 .exit))) r ⌝ }
+    requires { ⌜ explain-status-of position (now pattern) (now text)
+        (tables (now order) (now delta2) (now delta1) (now delta3)) ≡ 0 ⌝ }
+    ensures { λ r. ⌜ Explain-outcome position (before pattern) (before text)
+        (lent order delta2 delta1 delta3) (left order delta2 delta1 delta3) r ⌝ }
 {
     let p = prepare::write_tables(pattern, order, delta2, delta1, delta3) as usize;
     let b = position as usize;
-    let told = explain_at::explain_at(pattern, text, order, delta2, delta1, delta3, p, b);
+    let told = explain_position::explain_at(pattern, text, order, delta2, delta1, delta3, p, b);
     explain_answers::explained(told)
 }
 
-// Explains why a position of the text (place of the chain) has no hold. Tables that stand in the caller's buffers are not trusted: they are worked out
-// anew.
+// Explains why a position of the text (place of the chain) has no hold. Tables that stand in the
+// caller's buffers are not trusted: they are worked out anew.
 pub fn explain(
     position: u32,
     pattern: &[u8],
@@ -51,16 +53,10 @@ pub fn explain(
     delta1: &mut [u16],
     delta3: &mut [u16],
 ) -> ExplainAnswer
-    ensures { λ r. ⌜ Explain-outcome position (now (pattern .entry)) (now (text .entry))
-        (tables (now (order .entry)) (now (delta2 .entry)) (now (delta1 .entry)) (now (delta3 .entry)))
-        (tables (now (order .exit)) (now (delta2 .exit)) (now (delta1 .exit)) (now (delta3 .exit))) r ⌝ }
+    ensures { λ r. ⌜ Explain-outcome position (before pattern) (before text)
+        (lent order delta2 delta1 delta3) (left order delta2 delta1 delta3) r ⌝ }
 {
-    let lengths = TableLengths {
-        order: order.len(),
-        delta2: delta2.len(),
-        delta1: delta1.len(),
-        delta3: delta3.len(),
-    };
+    let lengths = tables::lengths(order, delta2, delta1, delta3);
     let status = status_of(pattern.len(), text.len(), position, lengths);
     if status != 0 {
         return explain_answers::refused(status);

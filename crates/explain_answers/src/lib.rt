@@ -1,4 +1,5 @@
-// Why a position has no hold: the explanation as an enum, and the answer at the C boundary, which carries no enum.
+// Why a position has no hold: the explanation as an enum, and the answer at the C boundary, which
+// carries no enum.
 use answers::Answer;
 ghost use mathlib.Core.Path.{_≡_};
 ghost use Rattle.explain_answers.specs.Answer.{kind-number, explained, refused};

@@ -1,14 +1,13 @@
 -- Exactly the frames (b + q) modulo n of the occurrences b are holds (`Holds-right`), each for one occurrence (`Holds-once`): frame i just where an
 -- occurrence is q back from it around the ring. By induction on their list.
-use mathlib.Core.Bool.{Bool, cond}
+use mathlib.Core.Bool.{cond}
 use mathlib.Core.List.{List, [], _∷_, _++_}
 use mathlib.Core.Logic.{⊎-elim}
 use mathlib.Core.Path.{_≡_, refl, sym, _∙_}
 use Prim.Native.Nat.{ℕ, _+_, _%_, _≤_, _<_}
 use native.Mathlib.Nat.{mod-lt}
 use native.Mathlib.Omega.{arith}
-use borrow.Author.Tests.{eq-eqb, ne-eqb}
-use lib.Dec.{eqb}
+use borrow.Author.Tests.{eq-eqb, ne-eqb, lt-leb}
 use lib.ListN.{length, getD, set, drop, length-set}
 use lib.Seq.{set-append-left, getD-set-same, getD-set-other}
 use Rattle.answers.proofs.Bytes.{bytes-entry}
@@ -22,11 +21,11 @@ use Rattle.ring.proofs.Back.{on-inverse}
 use Rattle.ring.proofs.Listed.{is-in-passing-moved, ascending-count}
 use Rattle.ring.proofs.Occurrences.{occurs-in, occurrences-passing, occurrences-ascend}
 use Rattle.ring.specs.Ring.{back, is-in, ascending}
-use Rattle.frames.specs.Frames.{hold, holds, with-holds, frames}
+use Rattle.frames.specs.Frames.{hold, is-hold, holds, is-held, with-holds, frames}
 use Rattle.frames.specs.Promises.{Holds-right, holds-of, Holds-once}
 
 -- a frame after holds are marked at positions
-with-holds-at :
+pub with-holds-at :
     (x i : ℕ) (positions frames : List ℕ) → i < length frames →
     getD (with-holds x positions frames) i 0 ≡ cond (is-in positions i) x (getD frames i 0)
 unfolding with-holds is-in
@@ -40,7 +39,7 @@ with-holds-at x i (j ∷ later) fs h =
     (λ d. rw (ne-eqb j i d, getD-set-other fs j i x 0 (λ e. d (sym e))))
     (eq-or-ne j i)
 
-length-with-holds : (x : ℕ) (positions frames : List ℕ) → length (with-holds x positions frames) ≡ length frames
+pub length-with-holds : (x : ℕ) (positions frames : List ℕ) → length (with-holds x positions frames) ≡ length frames
 unfolding with-holds
 length-with-holds x [] fs = refl
 length-with-holds x (i ∷ later) fs = length-with-holds x later (set fs i x) ∙ length-set fs i x
@@ -53,13 +52,9 @@ pub holds-right : Holds-right
 unfolding Holds-right frames
 holds-right q i w t h = with-holds-at hold i (holds (length t) q (occurrences w t)) t h
 
--- position i of t is the hold of an occurrence of w
-abbrev pub held : (q : ℕ) (w t : List ℕ) (i : ℕ) → Bool
-held q w t i = is-in (holds (length t) q (occurrences w t)) i
-
 module _ (w t : List ℕ) (some : 1 ≤ length w) where
   -- position i is held just where the one that is q back from it is an occurrence
-  pub held-at : (q i : ℕ) → i < length t → held q w t i ≡ occurs-in w t (back (length t) i q)
+  pub held-at : (q i : ℕ) → i < length t → is-held q w t i ≡ occurs-in w t (back (length t) i q)
   unfolding holds
   held-at q i l =
       rw (occurrences-passing w t some) (is-in-passing-moved (on-inverse (length t) q) (occurs-in w t) i l)
@@ -67,12 +62,12 @@ module _ (w t : List ℕ) (some : 1 ≤ length w) where
 -- in a text of bytes a frame is a hold just where it is held
 pub frame-held :
     (q i : ℕ) (w t : List ℕ) → ((k : ℕ) → byte t k < hold) → i < length t →
-    eqb (getD (frames q w t) i 0) hold ≡ held q w t i
+    is-hold (getD (frames q w t) i 0) ≡ is-held q w t i
 unfolding Holds-right
 frame-held q i w t bytes h =
     rw (holds-right q i w t h)
-    (⊎-elim (λ e. rw e) (λ e. rw e (ne-eqb (byte t i) hold (λ e. omega (arith, bytes i))))
-    (true-or-false (held q w t i)))
+    (⊎-elim (λ e. rw e) (λ e. rw e (lt-leb hold (byte t i) (bytes i)))
+    (true-or-false (is-held q w t i)))
 
 -- demand 3: after a conversion the holds are those of the occurrences
 pub holds-listed :
@@ -81,7 +76,7 @@ pub holds-listed :
 unfolding holds-of ascending
 holds-listed q w t bytes =
     rw (length-frames q w t)
-    (passing-same (length t) 0 (λ i. eqb (getD (frames q w t) i 0) hold) (held q w t)
+    (passing-same (length t) 0 (λ i. is-hold (getD (frames q w t) i 0)) (is-held q w t)
     (λ k l u. frame-held q k w t bytes (omega arith)))
 
 -- those of different occurrences are different

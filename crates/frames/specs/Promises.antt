@@ -3,23 +3,22 @@ use mathlib.Core.Bool.{cond}
 use mathlib.Core.List.{List}
 use mathlib.Core.Path.{_≡_}
 use Prim.Native.Nat.{ℕ, _<_}
-use lib.Dec.{eqb}
 use lib.ListN.{length, getD}
 use Rattle.answers.specs.Bytes.{Bytes}
 use Rattle.tables.specs.Sets.{byte}
 use Rattle.steps.specs.Occurrences.{occurrences}
-use Rattle.ring.specs.Ring.{is-in, passing}
-use Rattle.frames.specs.Frames.{frames, hold, holds}
+use Rattle.ring.specs.Ring.{passing}
+use Rattle.frames.specs.Frames.{hold, is-hold, is-held, frames}
 
 -- demand 2: exactly the named byte (card) of each occurrence (find) becomes a hold, and every other is a move with its byte
 unfoldable pub Holds-right : Type 0
 Holds-right =
     (q i : ℕ) (w t : List ℕ) → i < length t →
-    getD (frames q w t) i 0 ≡ cond (is-in (holds (length t) q (occurrences w t)) i) hold (byte t i)
+    getD (frames q w t) i 0 ≡ cond (is-held q w t i) hold (byte t i)
 
 -- the positions of the holds among frames, ascending
 unfoldable pub holds-of : (frames : List ℕ) → List ℕ
-holds-of fs = passing (length fs) 0 (λ i. eqb (getD fs i 0) hold)
+holds-of fs = passing (length fs) 0 (λ i. is-hold (getD fs i 0))
 
 -- each occurrence has a hold of its own: in a text of bytes there are as many holds as occurrences
 unfoldable pub Holds-once : Type 0

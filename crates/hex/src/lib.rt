@@ -1,4 +1,5 @@
-// Capital hexadecimal digits: a byte read as a digit, the digit of a value, and a table of the two digits of each byte.
+// Capital hexadecimal digits: a byte read as a digit, the digit of a value, and a table of the two
+// digits of each byte.
 ghost use mathlib.Core.Path.{_≡_};
 ghost use Prim.Native.Nat.{_%_, _≤_};
 ghost use Rattle.hex.specs.Parsed.{Parsed-outcome};
@@ -12,8 +13,8 @@ pub enum Parsed {
     Refused,
 }
 
-// The value of a byte that is known to be a digit. It is public for the crate that reads lines:
-// once they are checked, their digits need no test for refusal 2 again.
+// The value of a byte that is known to be a digit. Once a file's lines are checked, their digits
+// need no test for refusal 2 again.
 pub fn value_of(digit: u8) -> u8
     requires { ⌜ 0x30 ≤ digit ⌝ }
     ensures { λ r. ⌜ r ≡ digit-value digit ⌝ }
@@ -48,7 +49,7 @@ pub fn digit_of(value: u8) -> u8
     }
 }
 
-// The two digits of each byte, those of byte b at 2 b and 2 b + 1. It is public for the crate that writes reports, which works it out once and
+// The two digits of each byte, those of byte b at 2 b and 2 b + 1. A report works it out once and
 // lends it for each line.
 pub fn digit_pairs() -> [u8; 512]
     ensures { λ r. ⌜ Digit-pairs r ⌝ }

@@ -5,8 +5,8 @@ use mathlib.Core.Path.{_≡_, refl, ap}
 use Prim.Native.Nat.{ℕ, zero, suc, _+_, _*_}
 use lib.ListN.{length, length-append}
 use Rattle.hex.specs.Hex.{digits}
-use Rattle.lines.proofs.Lines.{length-lines}
-use Rattle.lines.specs.Lines.{line}
+use Rattle.hex_lines.proofs.Lines.{length-lines}
+use Rattle.hex_lines.specs.Lines.{line}
 use Rattle.job.specs.Job.{first-line, job-file, file-length, m-in, n-in, bytes-in, pattern-in, text-in}
 
 pub length-first-line : (m q n : ℕ) → length (first-line m q n) ≡ 11

@@ -16,8 +16,8 @@ use Rattle.hex.proofs.Numbers.{bytes-past, byte-there, byte-stands, length-digi
 use Rattle.hex.proofs.Table.{and-left, and-right}
 use Rattle.hex.specs.Hex.{digits, all-digits, number}
 use Rattle.job.proofs.Lengths.{length-file, length-pattern, length-text}
-use Rattle.lines.proofs.Lines.{length-lines}
-use Rattle.lines.specs.Lines.{line-end, line, lines}
+use Rattle.hex_lines.proofs.Lines.{length-lines}
+use Rattle.hex_lines.specs.Lines.{line-end, line, lines}
 use Rattle.job.proofs.Taken.{file-taken, file-taken-done}
 use Rattle.job.specs.Job.{first-line, job-file, file-length, edition-in, m-in, q-in, n-in}
 use Rattle.job.specs.Job.{bytes-in, pattern-in, text-in, good-line, good-lines}

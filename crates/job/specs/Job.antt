@@ -6,7 +6,7 @@ use lib.Dec.{ltb, eqb}
 use lib.ListN.{length, getD}
 use Rattle.answers.specs.Refusals.{Refusal, refuse, first-of, job-refusals}
 use Rattle.hex.specs.Hex.{digits, all-digits, number}
-use Rattle.lines.specs.Lines.{line-end, line, lines}
+use Rattle.hex_lines.specs.Lines.{line-end, line, lines}
 
 -- the first line has ten digits: edition 01, m in two, q in two, n in four
 unfoldable pub first-line : (m q n : ℕ) → List ℕ

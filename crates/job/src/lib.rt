@@ -1,4 +1,5 @@
-// Job files: what reading and writing answer. The file's definition is in specs/, and what is promised of it in specs/Promises.antt.
+// Job files: what reading and writing answer. The file's definition is in specs/, and what is
+// promised of it in specs/Promises.antt.
 use answers::Answer;
 
 // What reading answers.

@@ -2,6 +2,8 @@
 ghost use mathlib.Core.Path.{_≡_};
 ghost use Prim.Native.Nat.{_<_, _≤_};
 ghost use lib.ListN.{length};
+ghost use Rattle.answers.specs.Contracts.{before};
+ghost use Rattle.answers.specs.Refusals.{longest-text};
 ghost use Rattle.ones.specs.Ones.{ones-of, count-answer};
 ghost use Rattle.ones.specs.Words.{word-of};
 use answers::Answer;
@@ -9,7 +11,7 @@ use answers::Answer;
 // Eight bytes as one word, the first byte lowest.
 fn word_of(bytes: &[u8]) -> u64
     requires { ⌜ length (now bytes) ≡ 8 ⌝ }
-    ensures { λ r. ⌜ r ≡ word-of (now (bytes .entry)) ⌝ }
+    ensures { λ r. ⌜ r ≡ word-of (before bytes) ⌝ }
 {
     bytes[0] as u64
         | (bytes[1] as u64) << 8
@@ -24,7 +26,7 @@ fn word_of(bytes: &[u8]) -> u64
 // The ones of fewer than eight bytes, each counted by itself.
 fn ones_by_bytes(text: &[u8]) -> u32
     requires { ⌜ length (now text) < 8 ⌝ }
-    ensures { λ r. ⌜ r ≡ ones-of (now (text .entry)) ⌝ }
+    ensures { λ r. ⌜ r ≡ ones-of (before text) ⌝ }
 {
     let mut ones: u32 = 0;
     for i in 0..text.len() {
@@ -33,11 +35,11 @@ fn ones_by_bytes(text: &[u8]) -> u32
     ones
 }
 
-// The ones of the bytes of a text (the holes of a chain): eight bytes together where eight remain, and each of the rest by itself. It is public
-// for the crate that converts, which has measured the text.
+// The ones of the bytes of a text (the holes of a chain): eight bytes together where eight remain,
+// and each of the rest by itself.
 pub fn ones_of(text: &[u8]) -> u32
-    requires { ⌜ length (now text) ≤ 16384 ⌝ }
-    ensures { λ r. ⌜ r ≡ ones-of (now (text .entry)) ⌝ }
+    requires { ⌜ length (now text) ≤ longest-text ⌝ }
+    ensures { λ r. ⌜ r ≡ ones-of (before text) ⌝ }
 {
     let words = text.len() / 8;
     let mut ones: u32 = 0;
@@ -49,7 +51,7 @@ pub fn ones_of(text: &[u8]) -> u32
 
 // Counts the ones of a text (the holes of a chain).
 pub fn count_ones(text: &[u8]) -> Answer
-    ensures { λ r. ⌜ r ≡ count-answer (now (text .entry)) ⌝ }
+    ensures { λ r. ⌜ r ≡ count-answer (before text) ⌝ }
 {
     let status = answers::text_status(text.len());
     if status != 0 {

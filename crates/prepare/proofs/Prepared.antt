@@ -2,7 +2,7 @@
 -- Where its status is 0, the pattern is taken and its tables fit.
 use mathlib.Core.List.{List, [], _∷_}
 use mathlib.Core.Bool.{false}
-use mathlib.Core.Path.{_≡_, sym, ap}
+use mathlib.Core.Path.{_≡_, sym, _∙_, ap}
 use Prim.Native.Nat.{ℕ}
 use native.Mathlib.Omega.{arith}
 use lib.ListN.{length}
@@ -16,10 +16,10 @@ use Rattle.tables.specs.declared.TableLengths.{TableLengths}
 use Rattle.tables.specs.Tables.{period}
 use Rattle.tables.specs.Prepare.{prepare-status, prepare-done, Prepare-outcome-of}
 
--- 4 is measured among 4, 5 and 6, of which the others never hold
-pub status-is : (m : ℕ) (l : TableLengths) → measured-status m 0 0 l false ≡ prepare-status m l
+-- 4 is measured among 4, 5 and 6, of which the others never hold; l' are the buffers' lengths
+pub status-is : (m : ℕ) {s : ℕ} {l l' : TableLengths} → s ≡ measured-status m 0 0 l false → l ≡ l' → s ≡ prepare-status m l'
 unfolding first-of measured-status prepare-status
-status-is m l = sym (no-text m (table-refusal m l ∷ refuse 7 false ∷ []))
+status-is m {l' = l'} measured e = rw e at measured ∙ sym (no-text m (table-refusal m l' ∷ refuse 7 false ∷ []))
 
 -- the status is 0
 pub prepare-fit : {w : List ℕ} {lent : Tables} → prepare-status (length w) (lengths lent) ≡ 0 → Tables-fit w lent

@@ -15,8 +15,8 @@ use Rattle.tables.specs.Buffers.{Tables}
 use Rattle.tables.specs.declared.TableLengths.{TableLengths}
 use Rattle.steps.proofs.Decide.{same-texts}
 use Rattle.steps.specs.Occurrences.{occurrences}
-use Rattle.matcher.specs.Search.{search-status, search-status-of, search-done, found-left}
-use Rattle.converter.proofs.Paired.{frames-by}
+use Rattle.search.specs.Search.{search-status, search-status-of, search-done, found-left}
+use Rattle.convert.proofs.Paired.{frames-by}
 use Rattle.price.proofs.Priced.{price-taken}
 use Rattle.price.specs.Price.{job-cost, price-status, price-status-of, price-answer, Price-outcome-of}
 use Rattle.price.specs.Promises.{Price-call, Priced, Frames-priced, Prices-paired, As-by-search}

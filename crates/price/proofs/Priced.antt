@@ -15,13 +15,13 @@ use Rattle.answers.specs.declared.Answer.{Answer}
 use Rattle.tables.proofs.Rooms.{tables-kept}
 use Rattle.tables.specs.Buffers.{Tables, lengths, measured-status}
 use Rattle.tables.specs.declared.TableLengths.{TableLengths}
-use Rattle.matcher.specs.Search.{found-left, Search-outcome-of, Search-outcome}
+use Rattle.search.specs.Search.{found-left, Search-outcome-of}
 use Rattle.frames.proofs.Holds.{occurrences-few}
-use Rattle.converter.proofs.Converted.{counted}
-use Rattle.converter.proofs.Taken.{Conversion-taken, conversion-taken, search-taken}
-use Rattle.converter.specs.Convert.{convert-status}
-use Rattle.tariff.proofs.Cost.{cost-counted}
-use Rattle.tariff.specs.Sums.{cost-by-holds, Countable}
+use Rattle.convert.proofs.Converted.{counted}
+use Rattle.convert.proofs.Taken.{Conversion-taken, conversion-taken}
+use Rattle.convert.specs.Convert.{convert-status}
+use Rattle.price_tariff.proofs.Cost.{cost-counted}
+use Rattle.price_tariff.specs.Sums.{cost-by-holds, Countable}
 use Rattle.price.specs.Price.{price-status, price-answer, Price-outcome-of}
 use Rattle.price.specs.declared.PriceAnswer.{PriceAnswer}
 
@@ -30,9 +30,10 @@ abbrev answer-with : (status pence : ℕ) → PriceAnswer
 answer-with s pence = record { answer = status-only s; pence = pence }
 
 -- what is measured is the status of pricing
-pub status-is : (m q n found : ℕ) (l : TableLengths) → measured-status m q n l (ltb found n) ≡ price-status m q n l found
+pub status-is :
+    (m q n found : ℕ) {s : ℕ} {l l' : TableLengths} → s ≡ measured-status m q n l (ltb found n) → l ≡ l' → s ≡ price-status m q n l' found
 unfolding measured-status price-status
-status-is m q n found l = refl
+status-is m q n found measured e = rw e at measured
 
 -- a job is refused as a conversion is that has room for its frames
 as-converted : (m q n found : ℕ) (l : TableLengths) → convert-status m q n l found n ≡ price-status m q n l found
@@ -52,11 +53,8 @@ module _ {q : ℕ} {w t : List ℕ} {lent : Tables} {found : List ℕ} where
 
   module _
       {left : Tables} {found' : List ℕ} {r : Answer} (fit : Conversion-taken (length w) q (length t) (lengths lent) (length found) (length t))
-      (outcome : Search-outcome w t lent left found found' r)
+      (searched : Search-outcome-of 0 w t lent left found found' r)
     where
-      searched : Search-outcome-of 0 w t lent left found found' r
-      searched = rw (search-taken fit) at outcome
-
       -- the cost can be worked out
       pub countable : Countable t (r .occurrences)
       countable =

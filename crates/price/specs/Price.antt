@@ -7,9 +7,9 @@ use Rattle.answers.specs.Answers.{status-only, if-done}
 use Rattle.answers.specs.Refusals.{first-of, job-refusals, buffer-refusal}
 use Rattle.tables.specs.Buffers.{Tables, lengths, table-refusal, tables-left}
 use Rattle.tables.specs.declared.TableLengths.{TableLengths}
-use Rattle.matcher.specs.Search.{found-left}
+use Rattle.search.specs.Search.{found-left}
 use Rattle.frames.specs.Frames.{frames}
-use Rattle.tariff.specs.Tariff.{cost}
+use Rattle.price_tariff.specs.Tariff.{cost}
 use Rattle.price.specs.declared.PriceAnswer.{PriceAnswer}
 
 -- the status of pricing: 4, 5, 6, 7; n entries are needed for finds

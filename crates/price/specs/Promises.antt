@@ -10,9 +10,9 @@ use Rattle.steps.specs.Occurrences.{occurrences}
 use Rattle.steps.specs.Promises.{Same-at}
 use Rattle.steps.specs.Steps.{comparisons}
 use Rattle.steps.specs.Text.{shown}
-use Rattle.matcher.specs.Search.{Search-outcome}
-use Rattle.converter.specs.Paired.{Call, Converts, Call-taken}
-use Rattle.tariff.specs.Tariff.{cost}
+use Rattle.search.specs.Search.{Search-outcome}
+use Rattle.convert.specs.Paired.{Call, Converts, Call-taken}
+use Rattle.price_tariff.specs.Tariff.{cost}
 use Rattle.price.specs.Price.{Price-outcome}
 use Rattle.price.specs.declared.PriceAnswer.{PriceAnswer}
 

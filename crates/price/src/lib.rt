@@ -1,8 +1,8 @@
 // The price of a job: a search, and then the tariff.
 use answers::Answer;
-use tables::TableLengths;
+ghost use Rattle.answers.specs.Contracts.{before, after};
 ghost use Rattle.price.specs.Price.{Price-outcome};
-ghost use Rattle.tables.specs.Buffers.{tables};
+ghost use Rattle.tables.specs.Buffers.{lent, left};
 
 // What pricing answers.
 #[repr(C)]
@@ -12,8 +12,8 @@ pub struct PriceAnswer {
     pub pence: u32,
 }
 
-// Prices a text (chain) that is converted by a pattern (motif) and a hold offset (hold place). Each occurrence (find) has a hold of its own, so that
-// the holds need not be written to be counted.
+// Prices a text (chain) that is converted by a pattern (motif) and a hold offset (hold place). Each
+// occurrence (find) has a hold of its own, so that the holds need not be written to be counted.
 pub fn price(
     hold_offset: u32,
     pattern: &[u8],
@@ -24,17 +24,11 @@ pub fn price(
     delta3: &mut [u16],
     found: &mut [u16],
 ) -> PriceAnswer
-    ensures { λ r. ⌜ Price-outcome «hold_offset» (now (pattern .entry)) (now (text .entry))
-        (tables (now (order .entry)) (now (delta2 .entry)) (now (delta1 .entry)) (now (delta3 .entry)))
-        (tables (now (order .exit)) (now (delta2 .exit)) (now (delta1 .exit)) (now (delta3 .exit)))
-        (now (found .entry)) (now (found .exit)) r ⌝ }
+    ensures { λ r. ⌜ Price-outcome «hold_offset» (before pattern) (before text)
+        (lent order delta2 delta1 delta3) (left order delta2 delta1 delta3)
+        (before found) (after found) r ⌝ }
 {
-    let lengths = TableLengths {
-        order: order.len(),
-        delta2: delta2.len(),
-        delta1: delta1.len(),
-        delta3: delta3.len(),
-    };
+    let lengths = tables::lengths(order, delta2, delta1, delta3);
     let hold_offset = hold_offset as usize;
     let n = text.len();
     let status = tables::status(pattern.len(), hold_offset, n, lengths, found.len() < n);
@@ -44,9 +38,9 @@ pub fn price(
             pence: 0,
         };
     }
-    let searched = matcher::search_within(pattern, text, order, delta2, delta1, delta3, found);
+    let searched = search::search_within(pattern, text, order, delta2, delta1, delta3, found);
     PriceAnswer {
         answer: answers::status_only(0),
-        pence: tariff::cost_by_holds(text, searched.occurrences),
+        pence: price_tariff::cost_by_holds(text, searched.occurrences),
     }
 }

@@ -10,14 +10,14 @@ use Rattle.answers.specs.Answers.{if-done, answered}
 use Rattle.answers.specs.declared.Answer.{Answer}
 use Rattle.tables.specs.Buffers.{Tables, lengths}
 use Rattle.steps.specs.Occurrences.{occurrences}
-use Rattle.matcher.specs.Search.{found-left, Search-outcome}
+use Rattle.search.specs.Search.{found-left, Search-outcome-of}
 use Rattle.frames.proofs.Holds.{length-frames, occurrences-few}
 use Rattle.frames.specs.Frames.{frames}
-use Rattle.converter.proofs.Converted as conversion
-use Rattle.converter.proofs.Taken.{Conversion-taken}
-use Rattle.converter.specs.Convert.{convert-done, frames-left, Convert-outcome-of}
-use Rattle.converter.specs.Within.{Frames-written}
-use Rattle.printer.specs.Printed.{report-lines}
+use Rattle.convert.proofs.Converted as conversion
+use Rattle.convert.proofs.Taken.{Conversion-taken}
+use Rattle.convert.specs.Convert.{convert-done, frames-left, Convert-outcome-of}
+use Rattle.convert.specs.Within.{Frames-written}
+use Rattle.report_lines.specs.Printed.{report-lines}
 use Rattle.report.specs.Report.{done-report}
 
 pub record Converted (q : ℕ) (w t found' frame' : List ℕ) (r : Answer) : Type 0 where
@@ -42,7 +42,7 @@ module _ {q : ℕ} {w t : List ℕ} {lent left : Tables} {found found' frame fra
 
   pub converted :
       {a : Answer} → Conversion-taken (length w) q (length t) (lengths lent) (length found) (length frame) →
-      Search-outcome w t lent left found found' a → Frames-written a q t found' frame frame' r → Converted q w t found' frame' r
+      Search-outcome-of 0 w t lent left found found' a → Frames-written a q t found' frame frame' r → Converted q w t found' frame' r
   converted fit outcome written = done (omega (arith, fit .limits)) (conversion.done fit outcome written)
 
 -- what a conversion leaves is what is reported

@@ -16,7 +16,7 @@ use Rattle.job.proofs.Taken.{file-taken}
 use Rattle.job.specs.Job.{edition-in, m-in, q-in, n-in, good-line, good-lines, file-length, file-refusals, file-status}
 use Rattle.report.proofs.Printed.{printed-refused}
 use Rattle.report.specs.Promises.{longest-file, Cut-right, input-room, Input-right}
-use Rattle.printer.specs.Printed.{refused-report}
+use Rattle.report_lines.specs.Printed.{refused-report}
 use Rattle.report.specs.Report.{seek-report}
 
 -- digits, and the number that they give, within the first n bytes

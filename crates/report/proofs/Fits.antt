@@ -10,12 +10,12 @@ use lib.Dec.{eqb}
 use lib.ListN.{length}
 use Rattle.frames.proofs.Holds.{length-frames, occurrences-few}
 use Rattle.frames.specs.Frames.{frames}
-use Rattle.converter.specs.Convert.{convert-done}
+use Rattle.convert.specs.Convert.{convert-done}
 use Rattle.job.proofs.Lengths.{length-pattern, length-text}
 use Rattle.job.proofs.Taken.{file-taken}
 use Rattle.job.specs.Job.{file-status, q-in, pattern-in, text-in}
 use Rattle.steps.specs.Occurrences.{occurrences}
-use Rattle.printer.proofs.Lines.{length-report-lines, length-refused}
+use Rattle.report_lines.proofs.Lines.{length-report-lines, length-refused}
 use Rattle.report.proofs.Printed.{printed-refused, printed-done}
 use Rattle.report.specs.Promises.{longest-report, Report-fits}
 use Rattle.report.specs.Report.{done-report, seek-report}

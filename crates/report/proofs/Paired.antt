@@ -13,7 +13,7 @@ use Rattle.answers.specs.Bytes.{Bytes}
 use Rattle.hex.proofs.Numbers.{number-below}
 use Rattle.hex.proofs.Table.{and-left, and-right}
 use Rattle.hex.specs.Hex.{all-digits}
-use Rattle.lines.specs.Lines.{line-end}
+use Rattle.hex_lines.specs.Lines.{line-end}
 use Rattle.job.proofs.Lengths.{length-pattern}
 use Rattle.job.proofs.RoundTrip.{good-lines-split}
 use Rattle.job.proofs.Taken.{file-taken}
@@ -21,12 +21,12 @@ use Rattle.job.specs.Job.{m-in, n-in, bytes-in, text-in, pattern-in, q-in, good
 use Rattle.steps.proofs.Decide.{same-texts}
 use Rattle.steps.proofs.Text.{span-same}
 use Rattle.steps.specs.Occurrences.{occurrences}
-use Rattle.matcher.specs.Search.{search-done}
+use Rattle.search.specs.Search.{search-done}
 use Rattle.frames.proofs.Holds.{holds-listed}
 use Rattle.frames.specs.Frames.{frames}
 use Rattle.ones.specs.Ones.{ones-of}
-use Rattle.converter.specs.Convert.{convert-done}
-use Rattle.printer.specs.Printed.{report-lines}
+use Rattle.convert.specs.Convert.{convert-done}
+use Rattle.report_lines.specs.Printed.{report-lines}
 use Rattle.report.proofs.Printed.{printed-done}
 use Rattle.report.specs.Paired.{Reports-paired}
 use Rattle.report.specs.Report.{done-report}

@@ -6,7 +6,7 @@ use Prim.Native.Nat.{ℕ}
 use Rattle.answers.proofs.Answered.{refused-only}
 use Rattle.answers.specs.Answers.{if-done}
 use Rattle.job.specs.Job.{file-status, q-in, pattern-in, text-in}
-use Rattle.printer.specs.Printed.{refused-report}
+use Rattle.report_lines.specs.Printed.{refused-report}
 use Rattle.report.specs.Report.{done-report, seek-report}
 
 pub printed-refused : (file : List ℕ) → (file-status file ≡ 0 → ⊥) → seek-report file ≡ refused-report (file-status file)

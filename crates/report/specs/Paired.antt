@@ -9,11 +9,11 @@ use Rattle.steps.specs.Occurrences.{occurrences}
 use Rattle.steps.specs.Promises.{Same-at}
 use Rattle.steps.specs.Steps.{comparisons}
 use Rattle.steps.specs.Text.{shown}
-use Rattle.matcher.specs.Search.{search-done}
+use Rattle.search.specs.Search.{search-done}
 use Rattle.frames.specs.Frames.{frames}
 use Rattle.frames.specs.Promises.{holds-of}
 use Rattle.ones.specs.Ones.{ones-of}
-use Rattle.printer.specs.Printed.{report-lines}
+use Rattle.report_lines.specs.Printed.{report-lines}
 use Rattle.report.specs.Report.{seek-report}
 
 -- what a file prints. A search for w in t gives the lines of h, C, p, the bound and the occurrences

@@ -5,7 +5,7 @@ use Prim.Native.Nat.{ℕ, _+_, _≤_, _<_}
 use lib.ListN.{length, take}
 use Rattle.answers.specs.Refusals.{longest-pattern, longest-text}
 use Rattle.job.specs.Job.{file-length}
-use Rattle.printer.specs.Printed.{report-length}
+use Rattle.report_lines.specs.Printed.{report-length}
 use Rattle.report.specs.Report.{seek-report}
 
 -- the longest job file: 49,547 bytes

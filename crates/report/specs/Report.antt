@@ -5,9 +5,9 @@ use Rattle.answers.specs.Answers.{if-done}
 use Rattle.job.specs.Job.{file-status, q-in, pattern-in, text-in}
 use Rattle.steps.specs.Occurrences.{occurrences}
 use Rattle.frames.specs.Frames.{frames}
-use Rattle.converter.specs.Convert.{convert-done}
-use Rattle.printer.specs.Printed.{report-lines, refused-report, Report-written}
-use Rattle.printer.specs.declared.ReportAnswer.{ReportAnswer}
+use Rattle.convert.specs.Convert.{convert-done}
+use Rattle.report_lines.specs.Printed.{report-lines, refused-report, Report-written}
+use Rattle.report_lines.specs.declared.ReportAnswer.{ReportAnswer}
 
 -- of a job that is taken
 unfoldable pub done-report : (q : ℕ) → (w t : List ℕ) → List ℕ

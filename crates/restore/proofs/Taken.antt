@@ -12,11 +12,11 @@ use Rattle.answers.proofs.Refusals.{done-none, limits-hold, limits-none}
 use Rattle.answers.specs.Refusals.{first-of, job-refusals, Within-limits, buffer-refusal}
 use Rattle.answers.specs.declared.Answer.{Answer}
 use Rattle.tables.proofs.Cases.{true-or-false, clash}
-use Rattle.conversions.proofs.Restored.{test-right}
-use Rattle.conversions.specs.Promises.{Test-right}
+use Rattle.restore_conversions.proofs.Restored.{test-right}
+use Rattle.restore_conversions.specs.Promises.{Test-right}
 use Rattle.restore.specs.Promises.{Status-right}
 use Rattle.restore.specs.Restore.{conversion-refusal, restore-status, Restore-outcome-of}
-use Rattle.conversions.specs.Restored.{is-conversion}
+use Rattle.restore_conversions.specs.Restored.{is-conversion}
 
 pub record Restorable (q : ℕ) (w gs : List ℕ) (text-len : ℕ) : Type 0 where
   pub limits : Within-limits (length w) q (length gs)

@@ -8,7 +8,7 @@ use lib.ListN.{length}
 use Rattle.answers.specs.Bytes.{Bytes}
 use Rattle.answers.specs.Refusals.{longest-pattern, longest-text}
 use Rattle.answers.specs.declared.Answer.{Answer}
-use Rattle.conversions.specs.Promises.{Conversion}
+use Rattle.restore_conversions.specs.Promises.{Conversion}
 use Rattle.restore.specs.Restore.{Restore-outcome}
 
 -- past 4 to 7 `restore` is done just where some text of bytes converts to the frames, and answers 9 just where none does

@@ -8,7 +8,7 @@ use Rattle.answers.specs.Answers.{status-only, if-done}
 use Rattle.answers.specs.Buffers.{in-front}
 use Rattle.answers.specs.Refusals.{Refusal, refuse, first-of, job-refusals, buffer-refusal}
 use Rattle.answers.specs.declared.Answer.{Answer}
-use Rattle.conversions.specs.Restored.{restored, is-conversion}
+use Rattle.restore_conversions.specs.Restored.{restored, is-conversion}
 
 -- 9: frames that are no conversion under this pattern (motif) and hold offset (hold place)
 abbrev pub conversion-refusal : (q : ℕ) → (w frames : List ℕ) → Refusal

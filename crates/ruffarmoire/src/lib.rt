@@ -1,32 +1,34 @@
-// The library as a Rust or C program links it: every public call, in one archive. Each takes any arguments, and promises what the call of the
-// same name does in its own room.
+// The library as a Rust or C program links it: every public call, in one archive. Each takes any
+// arguments, and promises what the call of the same name does in its own room.
 use answers::Answer;
 use explain_answers::ExplainAnswer;
 use job::ReadAnswer;
 use job::WriteAnswer;
 use price::PriceAnswer;
-use printer::ReportAnswer;
+use report_lines::ReportAnswer;
 use turn::TurnAnswer;
 ghost use mathlib.Core.Path.{_≡_};
-ghost use Rattle.converter.specs.Convert.{Convert-outcome};
+ghost use Rattle.answers.specs.Contracts.{before, after};
+ghost use Rattle.convert.specs.Convert.{Convert-outcome};
 ghost use Rattle.explain.specs.Explain.{Explain-outcome};
 ghost use Rattle.job.specs.Read.{Read-outcome};
 ghost use Rattle.job.specs.Write.{Write-outcome};
-ghost use Rattle.matcher.specs.Search.{Search-outcome};
+ghost use Rattle.search.specs.Search.{Search-outcome};
 ghost use Rattle.ones.specs.Ones.{count-answer};
 ghost use Rattle.price.specs.Price.{Price-outcome};
 ghost use Rattle.report.specs.Report.{Report-outcome};
 ghost use Rattle.restore.specs.Restore.{Restore-outcome};
-ghost use Rattle.tables.specs.Buffers.{tables};
+ghost use Rattle.tables.specs.Buffers.{lent, left};
 ghost use Rattle.tables.specs.Prepare.{Prepare-outcome};
 ghost use Rattle.turn.specs.Turn.{Turn-outcome};
 
 // Reads a job file into the caller's buffers for pattern (motif) and text (chain).
 #[no_mangle]
 pub extern "C" fn read_job(file: &[u8], pattern: &mut [u8], text: &mut [u8]) -> ReadAnswer
-    ensures { λ r. ⌜ Read-outcome (now (file .entry)) (now (pattern .entry)) (now (pattern .exit)) (now (text .entry)) (now (text .exit)) r ⌝ }
+    ensures { λ r. ⌜ Read-outcome (before file) (before pattern) (after pattern)
+        (before text) (after text) r ⌝ }
 {
-    reader::read_job(file, pattern, text)
+    job_reader::read_job(file, pattern, text)
 }
 
 // Writes the job file of a hold offset (hold place), a pattern (motif) and a text (chain).
@@ -37,12 +39,14 @@ pub extern "C" fn write_job(
     text: &[u8],
     file: &mut [u8],
 ) -> WriteAnswer
-    ensures { λ r. ⌜ Write-outcome «hold_offset» (now (pattern .entry)) (now (text .entry)) (now (file .entry)) (now (file .exit)) r ⌝ }
+    ensures { λ r. ⌜ Write-outcome «hold_offset» (before pattern) (before text)
+        (before file) (after file) r ⌝ }
 {
-    writer::write_job(hold_offset, pattern, text, file)
+    job_writer::write_job(hold_offset, pattern, text, file)
 }
 
-// Prepares a pattern (motif): works its order, Δ2, Δ1 and Δ3 out into the caller's buffers, and answers its period.
+// Prepares a pattern (motif): works its order, Δ2, Δ1 and Δ3 out into the caller's buffers, and
+// answers its period.
 #[no_mangle]
 pub extern "C" fn prepare(
     pattern: &[u8],
@@ -51,15 +55,14 @@ pub extern "C" fn prepare(
     delta1: &mut [u16],
     delta3: &mut [u16],
 ) -> Answer
-    ensures { λ r. ⌜ Prepare-outcome (now (pattern .entry))
-        (tables (now (order .entry)) (now (delta2 .entry)) (now (delta1 .entry)) (now (delta3 .entry)))
-        (tables (now (order .exit)) (now (delta2 .exit)) (now (delta1 .exit)) (now (delta3 .exit))) r ⌝ }
+    ensures { λ r. ⌜ Prepare-outcome (before pattern)
+        (lent order delta2 delta1 delta3) (left order delta2 delta1 delta3) r ⌝ }
 {
     prepare::prepare(pattern, order, delta2, delta1, delta3)
 }
 
-// Lists every occurrence (find) of the pattern (motif) in the text (chain), counts the comparisons (looks), and answers the pattern's period and the bound
-// beside them.
+// Lists every occurrence (find) of the pattern (motif) in the text (chain), counts the comparisons
+// (looks), and answers the pattern's period and the bound beside them.
 #[no_mangle]
 pub extern "C" fn search(
     pattern: &[u8],
@@ -70,12 +73,11 @@ pub extern "C" fn search(
     delta3: &mut [u16],
     found: &mut [u16],
 ) -> Answer
-    ensures { λ r. ⌜ Search-outcome (now (pattern .entry)) (now (text .entry))
-        (tables (now (order .entry)) (now (delta2 .entry)) (now (delta1 .entry)) (now (delta3 .entry)))
-        (tables (now (order .exit)) (now (delta2 .exit)) (now (delta1 .exit)) (now (delta3 .exit)))
-        (now (found .entry)) (now (found .exit)) r ⌝ }
+    ensures { λ r. ⌜ Search-outcome (before pattern) (before text)
+        (lent order delta2 delta1 delta3) (left order delta2 delta1 delta3)
+        (before found) (after found) r ⌝ }
 {
-    matcher::search(pattern, text, order, delta2, delta1, delta3, found)
+    search::search(pattern, text, order, delta2, delta1, delta3, found)
 }
 
 // Converts a text (chain) to frames, by a pattern (motif) and a hold offset (hold place).
@@ -91,12 +93,11 @@ pub extern "C" fn convert(
     found: &mut [u16],
     frames: &mut [u16],
 ) -> Answer
-    ensures { λ r. ⌜ Convert-outcome «hold_offset» (now (pattern .entry)) (now (text .entry))
-        (tables (now (order .entry)) (now (delta2 .entry)) (now (delta1 .entry)) (now (delta3 .entry)))
-        (tables (now (order .exit)) (now (delta2 .exit)) (now (delta1 .exit)) (now (delta3 .exit)))
-        (now (found .entry)) (now (found .exit)) (now (frames .entry)) (now (frames .exit)) r ⌝ }
+    ensures { λ r. ⌜ Convert-outcome «hold_offset» (before pattern) (before text)
+        (lent order delta2 delta1 delta3) (left order delta2 delta1 delta3)
+        (before found) (after found) (before frames) (after frames) r ⌝ }
 {
-    converter::convert(
+    convert::convert(
         hold_offset,
         pattern,
         text,
@@ -112,12 +113,13 @@ pub extern "C" fn convert(
 // Counts the ones of a text (the holes of a chain).
 #[no_mangle]
 pub extern "C" fn count_ones(text: &[u8]) -> Answer
-    ensures { λ r. ⌜ r ≡ count-answer (now (text .entry)) ⌝ }
+    ensures { λ r. ⌜ r ≡ count-answer (before text) ⌝ }
 {
     ones::count_ones(text)
 }
 
-// Turns a job in one of four ways: its pattern (motif) and text (chain) into the caller's buffers, its hold offset (hold place) in the answer.
+// Turns a job in one of four ways: its pattern (motif) and text (chain) into the caller's buffers,
+// its hold offset (hold place) in the answer.
 #[no_mangle]
 pub extern "C" fn turn(
     way: u32,
@@ -127,13 +129,15 @@ pub extern "C" fn turn(
     turned_pattern: &mut [u8],
     turned_text: &mut [u8],
 ) -> TurnAnswer
-    ensures { λ r. ⌜ Turn-outcome way «hold_offset» (now (pattern .entry)) (now (text .entry))
-        (now («turned_pattern» .entry)) (now («turned_pattern» .exit)) (now («turned_text» .entry)) (now («turned_text» .exit)) r ⌝ }
+    ensures { λ r. ⌜ Turn-outcome way «hold_offset» (before pattern) (before text)
+        (before «turned_pattern») (after «turned_pattern»)
+        (before «turned_text») (after «turned_text») r ⌝ }
 {
     turn::turn(way, hold_offset, pattern, text, turned_pattern, turned_text)
 }
 
-// Puts frames back to the text (chain) that was converted, by its pattern (motif) and hold offset (hold place).
+// Puts frames back to the text (chain) that was converted, by its pattern (motif) and hold offset
+// (hold place).
 #[no_mangle]
 pub extern "C" fn restore(
     hold_offset: u32,
@@ -141,12 +145,14 @@ pub extern "C" fn restore(
     frames: &[u16],
     text: &mut [u8],
 ) -> Answer
-    ensures { λ r. ⌜ Restore-outcome «hold_offset» (now (pattern .entry)) (now (frames .entry)) (now (text .entry)) (now (text .exit)) r ⌝ }
+    ensures { λ r. ⌜ Restore-outcome «hold_offset» (before pattern) (before frames)
+        (before text) (after text) r ⌝ }
 {
     restore::restore(hold_offset, pattern, frames, text)
 }
 
-// Prices a text (chain) that is converted by a pattern (motif) and a hold offset (hold place), in pence.
+// Prices a text (chain) that is converted by a pattern (motif) and a hold offset (hold place), in
+// pence.
 #[no_mangle]
 pub extern "C" fn price(
     hold_offset: u32,
@@ -158,10 +164,9 @@ pub extern "C" fn price(
     delta3: &mut [u16],
     found: &mut [u16],
 ) -> PriceAnswer
-    ensures { λ r. ⌜ Price-outcome «hold_offset» (now (pattern .entry)) (now (text .entry))
-        (tables (now (order .entry)) (now (delta2 .entry)) (now (delta1 .entry)) (now (delta3 .entry)))
-        (tables (now (order .exit)) (now (delta2 .exit)) (now (delta1 .exit)) (now (delta3 .exit)))
-        (now (found .entry)) (now (found .exit)) r ⌝ }
+    ensures { λ r. ⌜ Price-outcome «hold_offset» (before pattern) (before text)
+        (lent order delta2 delta1 delta3) (left order delta2 delta1 delta3)
+        (before found) (after found) r ⌝ }
 {
     price::price(
         hold_offset,
@@ -186,9 +191,8 @@ pub extern "C" fn explain(
     delta1: &mut [u16],
     delta3: &mut [u16],
 ) -> ExplainAnswer
-    ensures { λ r. ⌜ Explain-outcome position (now (pattern .entry)) (now (text .entry))
-        (tables (now (order .entry)) (now (delta2 .entry)) (now (delta1 .entry)) (now (delta3 .entry)))
-        (tables (now (order .exit)) (now (delta2 .exit)) (now (delta1 .exit)) (now (delta3 .exit))) r ⌝ }
+    ensures { λ r. ⌜ Explain-outcome position (before pattern) (before text)
+        (lent order delta2 delta1 delta3) (left order delta2 delta1 delta3) r ⌝ }
 {
     explain::explain(position, pattern, text, order, delta2, delta1, delta3)
 }
@@ -197,7 +201,7 @@ pub extern "C" fn explain(
 // the stack: the thread that calls it needs 192 KiB.
 #[no_mangle]
 pub extern "C" fn seek_report(file: &[u8], out: &mut [u8]) -> ReportAnswer
-    ensures { λ r. ⌜ Report-outcome (now (file .entry)) (now (out .entry)) (now (out .exit)) r ⌝ }
+    ensures { λ r. ⌜ Report-outcome (before file) (before out) (after out) r ⌝ }
 {
     report::seek_report(file, out)
 }

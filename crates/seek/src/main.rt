@@ -2,18 +2,19 @@
 use libc::STDERR_FILENO;
 use libc::STDIN_FILENO;
 use libc::STDOUT_FILENO;
-use printer::LONGEST_REPORT;
+use report_lines::LONGEST_REPORT;
 ghost use mathlib.Core.Bool.{false};
 ghost use mathlib.Core.Path.{_≡_};
 ghost use mathlib.Core.List.{List};
 ghost use Prim.Native.Nat.{ℕ, _≤_};
 ghost use lib.ListN.{length, take};
+ghost use Rattle.answers.specs.Contracts.{before, after};
 ghost use Rattle.io.specs.Counts.{Counts};
 ghost use Rattle.report.specs.Promises.{input-room, Read-from, longest-report};
 ghost use Rattle.report.specs.Report.{seek-report};
 
 // One byte more than the longest job file has, so that a longer file is told from it.
-const INPUT_ROOM: usize = 49548;
+const INPUT_ROOM: usize = 11 + 3 * (answers::LONGEST_PATTERN + answers::LONGEST_TEXT) + 1;
 
 // What came of reading the input.
 struct Input {
@@ -28,8 +29,8 @@ struct Input {
 // their order, and that `failed` tells of a read that failed, no contract says, since `read`
 // promises a count alone: the listing and the tests hold it.
 fn read_input(buf: &mut [u8]) -> Input
-    ensures { λ r. ⌜ Counts (r .bytes) (now (buf .exit)) ⌝ }
-    ensures { λ r. ⌜ (r .bytes ≡ length (now (buf .exit)) → r .failed ≡ false) ⌝ }
+    ensures counts { λ r. ⌜ Counts (r .bytes) (after buf) ⌝ }
+    ensures full { λ r. ⌜ (r .bytes ≡ length (after buf) → r .failed ≡ false) ⌝ }
 {
     let mut bytes = 0;
     while bytes < buf.len() {
@@ -49,15 +50,17 @@ fn read_input(buf: &mut [u8]) -> Input
     }
 }
 
-// Writes the report of standard input to the front of `out` and returns its length. The first `bytes` entries of the buffer `read` came from
-// standard input. Input that is longer than the buffer is longer than every job, and what was read of it is refused by the number that
-// the whole gives.
+// Writes the report of standard input to the front of `out` and returns its length. The first
+// `bytes` entries of the buffer `read` came from standard input. Input that is longer than the
+// buffer is longer than every job, and what was read of it is refused by the number that the whole
+// gives.
 fn report_of(read: &[u8], bytes: usize, out: &mut [u8]) -> usize
-    requires { ⌜ length (now read) ≡ input-room ⌝ }
-    requires { ⌜ bytes ≤ length (now read) ⌝ }
-    requires { ⌜ longest-report ≤ length (now out) ⌝ }
-    ensures { λ r. ⌜ Counts r (now (out .exit)) ⌝ }
-    ensures { λ r. ⌜ ((file : List ℕ) → Read-from (now (read .entry)) bytes file → take r (now (out .exit)) ≡ seek-report file) ⌝ }
+    requires size { ⌜ length (now read) ≡ input-room ⌝ }
+    requires inside { ⌜ bytes ≤ length (now read) ⌝ }
+    requires room { ⌜ longest-report ≤ length (now out) ⌝ }
+    ensures counts { λ r. ⌜ Counts r (after out) ⌝ }
+    ensures reported { λ r. ⌜ ((file : List ℕ) → Read-from (before read) bytes file →
+        take r (after out) ≡ seek-report file) ⌝ }
 {
     report::seek_report(&read[..bytes], out).bytes as usize
 }

@@ -4,11 +4,14 @@ use mathlib.Core.Bool.{Bool, _||_}
 use mathlib.Core.List.{List, [], _∷_, _++_}
 use mathlib.Core.Path.{_≡_}
 use Prim.Native.Nat.{ℕ, _+_, _*_, _≤_}
+use denote.Ref.{RefT}
+use denote.Triple.Both.{Both}
 use lib.Dec.{ltb}
 use lib.IntN.{ℤ}
 use lib.ListN.{length}
 use Rattle.answers.specs.Answers.{if-done}
 use Rattle.answers.specs.Buffers.{in-front}
+use Rattle.answers.specs.Contracts.{before, after}
 use Rattle.answers.specs.Refusals.{Refusal, refuse, first-of, longest-pattern, job-refusals}
 use Rattle.tables.specs.Tables.{stored-order, stored-Δ2, stored-Δ1, stored-Δ3}
 use Rattle.tables.specs.declared.TableLengths.{TableLengths}
@@ -23,6 +26,14 @@ pub record Tables : Type 0 where
 -- these buffers together
 abbrev pub tables : (order : List ℤ) → (delta2 delta1 delta3 : List ℕ) → Tables
 tables o d2 d1 d3 = record { order = o; delta2 = d2; delta1 = d1; delta3 = d3 }
+
+-- what a call's parameters for them hold when it begins
+abbrev pub lent : (order : Both (RefT (List ℤ)) (RefT (List ℤ))) → (delta2 delta1 delta3 : Both (RefT (List ℕ)) (RefT (List ℕ))) → Tables
+lent o d2 d1 d3 = tables (before o) (before d2) (before d1) (before d3)
+
+-- and when it ends
+abbrev pub left : (order : Both (RefT (List ℤ)) (RefT (List ℤ))) → (delta2 delta1 delta3 : Both (RefT (List ℕ)) (RefT (List ℕ))) → Tables
+left o d2 d1 d3 = tables (after o) (after d2) (after d1) (after d3)
 
 -- how long the buffers are
 abbrev pub lengths : Tables → TableLengths

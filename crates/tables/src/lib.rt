@@ -1,8 +1,9 @@
-// The tables of a pattern: their definitions are in specs/, and the laws of each in proofs/. The code that writes them is in the crates
-// delta1, minima, order, delta2, delta3 and prepare.
+// The tables of a pattern: their definitions are in specs/, and the laws of each in proofs/. The
+// code that works them out is in the crates whose names begin with tables, and in prepare.
 ghost use mathlib.Core.Path.{_≡_};
 ghost use Prim.Native.Nat.{_≤_};
-ghost use Rattle.tables.specs.Buffers.{tables-short, measured-status};
+ghost use Rattle.answers.specs.Refusals.{longest-pattern};
+ghost use Rattle.tables.specs.Buffers.{lent, lengths, tables-short, measured-status};
 
 // How many entries the caller's buffers for the tables have.
 pub struct TableLengths {
@@ -12,9 +13,22 @@ pub struct TableLengths {
     pub delta3: usize,
 }
 
-// Whether buffers of these lengths are too short for the tables of a pattern of m bytes. All are tested, so that it is one expression.
+// The lengths of these buffers.
+pub fn lengths(order: &[i16], delta2: &[u16], delta1: &[u16], delta3: &[u16]) -> TableLengths
+    ensures { λ r. ⌜ r ≡ lengths (lent order delta2 delta1 delta3) ⌝ }
+{
+    TableLengths {
+        order: order.len(),
+        delta2: delta2.len(),
+        delta1: delta1.len(),
+        delta3: delta3.len(),
+    }
+}
+
+// Whether buffers of these lengths are too short for the tables of a pattern of m bytes. All are
+// tested, so that it is one expression.
 fn too_short(m: usize, lengths: TableLengths) -> bool
-    requires { ⌜ m ≤ 128 ⌝ }
+    requires { ⌜ m ≤ longest-pattern ⌝ }
     ensures { λ r. ⌜ r ≡ tables-short m lengths ⌝ }
 {
     (lengths.order < m + 1)

@@ -10,9 +10,9 @@ use native.Mathlib.Omega.{arith}
 use lib.ListN.{length, getD, length-map, length-reverse, List·getD-append}
 use lib.Seq.{getD-at, ext-getD}
 use Rattle.answers.proofs.Bytes.{bytes-entry}
-use Rattle.mirror.proofs.Mirrored.{mirrored-right}
-use Rattle.mirror.specs.Mirrored.{mirrored}
-use Rattle.mirror.specs.Promises.{Mirror, Mirrored-right}
+use Rattle.turn_mirror.proofs.Mirrored.{mirrored-right}
+use Rattle.turn_mirror.specs.Mirrored.{mirrored}
+use Rattle.turn_mirror.specs.Promises.{Mirror, Mirrored-right}
 use Rattle.turn.specs.Promises.{Byte-turned, Turned-twice, Index-turned-twice}
 use Rattle.turn.specs.Turned.{mirrors, reverses, turned-by, turned, turned-index}
 

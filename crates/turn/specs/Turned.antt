@@ -3,7 +3,7 @@ use mathlib.Core.Bool.{Bool, _||_, cond}
 use mathlib.Core.List.{List, map, reverse}
 use Prim.Native.Nat.{ℕ, _-_}
 use lib.Dec.{eqb}
-use Rattle.mirror.specs.Mirrored.{mirrored}
+use Rattle.turn_mirror.specs.Mirrored.{mirrored}
 
 -- ways 1 and 3 mirror each byte (card)
 abbrev pub mirrors : (way : ℕ) → Bool

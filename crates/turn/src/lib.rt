@@ -3,7 +3,8 @@ ghost use mathlib.Core.Path.{_≡_};
 ghost use Prim.Native.Nat.{_<_, _≤_};
 ghost use lib.ListN.{length, take};
 ghost use Rattle.answers.specs.Buffers.{in-front};
-ghost use Rattle.mirror.specs.Mirrored.{Mirror-table};
+ghost use Rattle.answers.specs.Contracts.{before, after};
+ghost use Rattle.turn_mirror.specs.Mirrored.{Mirror-table};
 ghost use Rattle.turn.specs.Turn.{turn-status, Turn-outcome};
 ghost use Rattle.turn.specs.Turned.{turned-byte, turned, turned-index};
 use answers::Answer;
@@ -16,7 +17,8 @@ pub struct TurnAnswer {
     pub q: u32,
 }
 
-// Where turning moves an index of `len` entries: in the ways that reverse the order, to the same one counted from the end.
+// Where turning moves an index of `len` entries: in the ways that reverse the order, to the same
+// one counted from the end.
 fn turned_index(way: u32, len: usize, index: usize) -> usize
     requires { ⌜ index < len ⌝ }
     ensures { λ r. ⌜ r ≡ turned-index way len index ⌝ }
@@ -40,23 +42,25 @@ fn turned_byte(way: u32, byte: u8, table: &[u8; 256]) -> u8
     }
 }
 
-// Copies what a way leaves as it is to the front of a buffer, and returns how many bytes that are: in way 0 all whole blocks, in the others none.
+// Copies what a way leaves as it is to the front of a buffer, and returns how many bytes that are:
+// in way 0 all whole blocks, in the others none.
 fn copy_unturned(way: u32, bytes: &[u8], out: &mut [u8]) -> usize
     requires { ⌜ length (now bytes) ≤ length (now out) ⌝ }
-    ensures { λ r. ⌜ r ≤ length (now (bytes .entry)) ⌝ }
-    ensures { λ r. ⌜ now (out .exit) ≡ in-front (take r (turned way (now (bytes .entry)))) (now (out .entry)) ⌝ }
+    ensures inside { λ r. ⌜ r ≤ length (before bytes) ⌝ }
+    ensures copied { λ r. ⌜ after out ≡ in-front (take r (turned way (before bytes)))
+        (before out) ⌝ }
 {
     if way != 0 {
         return 0;
     }
-    blocks::copy_blocks(bytes, out)
+    copy_blocks::copy_blocks(bytes, out)
 }
 
 // Writes bytes turned to the front of a buffer, by a table of mirrored bytes.
 fn write_turned(way: u32, bytes: &[u8], table: &[u8; 256], out: &mut [u8])
-    requires { ⌜ Mirror-table (now table) ⌝ }
-    requires { ⌜ length (now bytes) ≤ length (now out) ⌝ }
-    ensures { λ r. ⌜ now (out .exit) ≡ in-front (turned way (now (bytes .entry))) (now (out .entry)) ⌝ }
+    requires mirrored { ⌜ Mirror-table (now table) ⌝ }
+    requires room { ⌜ length (now bytes) ≤ length (now out) ⌝ }
+    ensures { λ r. ⌜ after out ≡ in-front (turned way (before bytes)) (before out) ⌝ }
 {
     let len = bytes.len();
     let copied = copy_unturned(way, bytes, out);
@@ -75,7 +79,8 @@ fn turn_status(
     turned_pattern_len: usize,
     turned_text_len: usize,
 ) -> u32
-    ensures { λ r. ⌜ r ≡ turn-status way m «hold_offset» n «turned_pattern_len» «turned_text_len» ⌝ }
+    ensures { λ r. ⌜ r ≡ turn-status way m «hold_offset» n «turned_pattern_len»
+        «turned_text_len» ⌝ }
 {
     if 3 < way {
         return 8;
@@ -99,8 +104,9 @@ pub fn turn(
     turned_pattern: &mut [u8],
     turned_text: &mut [u8],
 ) -> TurnAnswer
-    ensures { λ r. ⌜ Turn-outcome way «hold_offset» (now (pattern .entry)) (now (text .entry))
-        (now («turned_pattern» .entry)) (now («turned_pattern» .exit)) (now («turned_text» .entry)) (now («turned_text» .exit)) r ⌝ }
+    ensures { λ r. ⌜ Turn-outcome way «hold_offset» (before pattern) (before text)
+        (before «turned_pattern») (after «turned_pattern»)
+        (before «turned_text») (after «turned_text») r ⌝ }
 {
     let m = pattern.len();
     let status = turn_status(
@@ -117,7 +123,7 @@ pub fn turn(
             q: 0,
         };
     }
-    let table = mirror::mirrored_bytes();
+    let table = turn_mirror::mirrored_bytes();
     write_turned(way, pattern, &table, turned_pattern);
     write_turned(way, text, &table, turned_text);
     TurnAnswer {

@@ -1,6 +1,6 @@
 -- The worked examples hold of the definitions, and the wrong claims beside them do not.
 -- Each claim is computed; the longest jobs go by the laws of written files and of equal bytes.
-use mathlib.Core.Bool.{false, and-false}
+use mathlib.Core.Bool.{false, and-false, true≢false}
 use mathlib.Core.List.{List, [], _∷_}
 use mathlib.Core.Path.{_≡_, refl, _∙_, ap}
 use Prim.Native.Nat.{ℕ, zero, suc, _+_, _*_, _%_, _≤_, _<_}
@@ -16,7 +16,7 @@ use Rattle.answers.specs.Buffers.{from-entry, in-front}
 use Rattle.answers.specs.Bytes.{Bytes}
 use Rattle.answers.specs.Refusals.{first-of, longest-pattern, longest-text, job-refusals}
 use Rattle.hex.specs.Hex.{is-digit, digit-value, digit, digits, all-digits, number}
-use Rattle.lines.specs.Lines.{line, lines}
+use Rattle.hex_lines.specs.Lines.{line, lines}
 use Rattle.job.specs.Job.{first-line, job-file, edition-in, m-in, q-in, n-in, bytes-in, pattern-in, text-in, good-line, good-lines, file-refusals, file-status}
 use Rattle.job.proofs.RoundTrip.{written-read}
 use Rattle.job.specs.Promises.{Written-read}
@@ -34,25 +34,26 @@ use Rattle.steps.specs.Promises.{Same-at}
 use Rattle.steps.specs.Steps.{agreeing, row, shifts, step, alignments-from, alignments, compared, is-occurrence, repeat-after, comparisons-of, listed, comparisons}
 use Rattle.steps.specs.Text.{shown, span}
 use Rattle.ring.specs.Ring.{back, is-in, passing, ascending}
-use Rattle.matcher.specs.Search.{search-status, found-left}
+use Rattle.search.specs.Search.{search-status, found-left}
 use Rattle.frames.specs.Frames.{holds, with-holds, frames}
 use Rattle.ones.specs.Ones.{ones-of, count-status, count-answer}
 use Rattle.ones.specs.Words.{word-of}
-use Rattle.converter.specs.Convert.{convert-status, frames-left}
-use Rattle.converter.specs.Paired.{by-search, by-convert}
-use Rattle.rotated_jobs.specs.Promises.{rotated, rotated-positions}
-use Rattle.mirror.specs.Mirrored.{reversed-bits, mirrored}
+use Rattle.convert.specs.Convert.{convert-status, frames-left}
+use Rattle.convert.specs.Paired.{by-search, by-convert}
+use Rattle.rotation_laws.specs.Promises.{rotated, rotated-positions}
+use Rattle.turn_mirror.specs.Mirrored.{reversed-bits, mirrored}
 use Rattle.turn.specs.Turn.{turn-status, turn-answer, turned-left}
 use Rattle.turn.specs.Turned.{turned-by, turned, turned-index}
 use Rattle.restore.specs.Restore.{restore-status, restored-left}
-use Rattle.conversions.specs.Restored.{restored, converts-again, is-conversion}
-use Rattle.tariff.proofs.Cost.{cost-equal}
-use Rattle.tariff.specs.Tariff.{byte-price, sum-from, total, rebate, cost}
+use Rattle.restore_conversions.specs.Walk.{rule-right}
+use Rattle.restore_conversions.specs.Restored.{is-frame, names-rule, restored-byte, all-restored, restored, converts-again, is-conversion}
+use Rattle.price_tariff.proofs.Cost.{cost-equal}
+use Rattle.price_tariff.specs.Tariff.{byte-price, sum-from, total, rebate, cost}
 use Rattle.price.specs.Price.{job-cost, price-status, price-answer}
 use Rattle.explain_answers.specs.Answer.{explained}
-use Rattle.explanations.specs.Explanation.{kind-by, spoils, first-spoilt, where-laid, explained-by, explanation}
+use Rattle.explain_meaning.specs.Explanation.{kind-by, spoils, first-spoilt, where-laid, explained-by, explanation}
 use Rattle.explain.specs.Explain.{explain-status, explain-answer}
-use Rattle.printer.specs.Printed.{report-status, report-answer, refused-report}
+use Rattle.report_lines.specs.Printed.{report-status, report-answer, refused-report}
 use Rattle.report.specs.Report.{done-report, seek-report}
 use Rattle.worked_examples.specs.Examples.{a, b, left-by-ac, bytes, shorthand-k-min, shorthand, Holds, examples, All, All-hold}
 
@@ -115,7 +116,7 @@ unfolding bytes Holds examples All All-hold shorthand-k-min shorthand Same-at
     holds with-holds frames ones ones-of word-of line done-report seek-report
     reversed-bits mirrored turned-by turned turned-index turn-status turn-answer turned-left from-entry in-front
     back is-in passing ascending rotated rotated-positions
-    restored converts-again is-conversion restore-status restored-left
+    is-frame names-rule restored-byte all-restored rule-right restored converts-again is-conversion restore-status restored-left
     byte-price sum-from total rebate cost price-status price-answer tables-left stored-Δ1 found-left
     frames-left read-answer write-answer report-answer
     kind-by spoils first-spoilt where-laid explained-by explanation explain-status explain-answer
@@ -140,10 +141,10 @@ examples-hold =
     then (refl, (refl, (refl, (refl, (refl, (refl, (refl, (refl, (refl, tt)))))))))
     then ((refl, refl), ((refl, refl), ((refl, refl), ((refl, refl), (refl, (refl, ((refl, refl), ((refl, refl), ((refl, refl), ((refl, refl), tt))))))))))
     then (refl, (refl, (refl, (refl, (refl, (refl, (refl, (refl, (refl, (refl, (refl, (refl, (refl, (refl, (refl, (refl, (refl, (refl, tt))))))))))))))))))
-    then (refl, (record { answer = refl; text-left = refl }, (record { answer = refl; text-left = refl }, (record { answer = refl; text-left = refl }, (record { answer = refl; text-left = refl }, (refl, (refl, (refl, tt))))))))
+    then (refl, (record { answer = refl; text-left = refl }, (record { answer = refl; text-left = refl }, (record { answer = refl; text-left = refl }, (record { answer = refl; text-left = refl }, (refl, (refl, (refl, (refl, (refl, (refl, (refl, (refl, (refl, (refl, (refl, tt))))))))))))))))
     then (refl, (refl, (refl, (refl, (refl, (refl, (refl, (refl, (refl, (refl, (record { answer = refl; text-left = refl }, (record { answer = refl; text-left = refl }, (record { answer = refl; text-left = refl }, (record { answer = refl; text-left = refl }, (record { answer = refl; text-left = refl }, (record { answer = refl; text-left = refl }, tt))))))))))))))))
     then (record { answer = refl; text-left = refl }, (record { answer = refl; text-left = refl }, (record { answer = refl; text-left = refl }, (record { answer = refl; text-left = refl }, (record { answer = refl; text-left = refl }, (record { answer = refl; text-left = refl }, (refl, (refl, (refl, (refl, (refl, tt)))))))))))
-    then (refl, (refl, (refl, (refl, (refl, (refl, (refl, (refl, (refl, (refl, (refl, (refl, (refl, (refl, (refl, tt)))))))))))))))
+    then (refl, (refl, (refl, (refl, (refl, (refl, (refl, (refl, (refl, (refl, (refl, (refl, (refl, (refl, (refl, (refl, (refl, tt)))))))))))))))))
     then (job-none 4097 0x00 b 0 (omega arith) refl ∙ cost-equal 4097 0x00 0x00, (cost-equal 4096 0x00 0x00, (cost-equal 4097 0x00 0x00, (cost-equal 4096 0x00 256, (cost-equal 4097 0x00 256, (cost-equal 16384 0xFF 256, (refl, (refl, (refl, (refl, (refl, (refl, tt))))))))))))
     then (record { answer = refl; tables = refl; occurrences-left = refl }, (record { answer = refl; tables = refl; occurrences-left = refl }, (record { answer = refl; tables = refl; occurrences-left = refl }, (record { answer = refl; tables = refl; occurrences-left = refl }, (record { answer = refl; tables = refl; occurrences-left = refl }, (record { answer = refl; tables = refl; occurrences-left = refl }, (record { answer = refl; tables = refl; occurrences-left = refl }, (refl, (refl, (refl, (refl, (refl, (refl, (refl, (refl, (refl, (refl, (refl, (refl, (refl, (refl, tt)))))))))))))))))))))
     then (refl, (refl, (refl, (refl, (ones-equal 8192 0xFF, (ap counted (ones-equal 8192 0xFF), tt))))))
@@ -164,7 +165,8 @@ examples-hold =
     then unequal refl then apart length refl then unequal refl then unequal refl then unequal refl then apart length refl then apart length refl
     then unequal refl then unequal refl then unequal refl then unequal refl then unequal refl then unequal refl then unequal refl
     then apart (λ r. r .delta3) refl then unequal refl then unequal refl then apart (λ r. r .ones) refl then apart (λ l. byte l 0) refl
-    then apart (λ l. byte l 0) refl then unequal refl then apart (λ l. byte l 0) refl then apart (λ r. r .q) refl then unequal refl
+    then apart (λ l. byte l 0) refl then unequal refl then apart (λ l. byte l 0) refl then apart (λ r. r .q) refl
+    then apart (λ l. byte l 0) refl then apart (λ l. byte l 0) refl then true≢false then unequal refl
     then (λ o. apart (λ l. byte l 0) refl (o .text-left)) then unequal refl then unequal refl then unequal refl then unequal refl
     then (λ o. apart (λ r. r .pence) refl (o .answer)) then (λ o. apart (λ r. r .period) refl (o .answer))
     then (λ o. apart (λ l. byte l 0) refl (o .occurrences-left)) then (λ o. apart (λ l. byte l 0) refl (o .moves-and-holds-left))

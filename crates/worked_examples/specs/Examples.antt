@@ -1,6 +1,6 @@
 -- The worked examples: document 01's ten ("Marked swatches"), its edges and its orders of refusal, and what document 02 adds, as rows of one
 -- table, and the common statement that covers them. These are definitions.
-use mathlib.Core.Bool.{_&&_, cond}
+use mathlib.Core.Bool.{Bool, true, false, _&&_, cond}
 use mathlib.Core.List.{List, [], _∷_, _++_, map}
 use mathlib.Core.Path.{_≡_}
 use Prim.Native.Char.{code}
@@ -26,18 +26,20 @@ use Rattle.steps.specs.Occurrences.{occurrences}
 use Rattle.steps.specs.Promises.{Same-at}
 use Rattle.steps.specs.Steps.{Comparison, alignments-in, comparisons, listed}
 use Rattle.steps.specs.Text.{shown}
-use Rattle.matcher.specs.Search.{search-status, search-done, Search-outcome}
+use Rattle.search.specs.Search.{search-status, search-done, Search-outcome}
 use Rattle.ones.specs.Ones.{ones-of, count-status, count-answer}
 use Rattle.ones.specs.Words.{word-of}
-use Rattle.frames.specs.Frames.{frames}
-use Rattle.converter.specs.Convert.{convert-status, convert-done, Convert-outcome}
-use Rattle.converter.specs.Paired.{Buffers, Call, Call-taken, Any-search, Lent-as-long}
-use Rattle.rotated_jobs.specs.Promises.{rotated, rotated-positions}
+use Rattle.frames.specs.Frames.{with-holds, frames}
+use Rattle.convert.specs.Convert.{convert-status, convert-done, Convert-outcome}
+use Rattle.convert.specs.Paired.{Buffers, Call, Call-taken, Any-search, Lent-as-long}
+use Rattle.rotation_laws.specs.Promises.{rotated, rotated-positions}
 use Rattle.turn.specs.Turn.{turn-status, turn-answer, turned-left, Turn-outcome}
 use Rattle.turn.specs.Turned.{turned}
 use Rattle.turn.specs.declared.TurnAnswer.{TurnAnswer}
+use Rattle.restore_conversions.specs.Restored.{all-restored}
+use Rattle.restore_conversions.specs.Walk.{rule-right}
 use Rattle.restore.specs.Restore.{restore-status, Restore-outcome}
-use Rattle.tariff.specs.Tariff.{rebate, cost}
+use Rattle.price_tariff.specs.Tariff.{rebate, cost}
 use Rattle.price.specs.Price.{price-status, job-cost, Price-outcome}
 use Rattle.price.specs.Promises.{Price-call, Priced}
 use Rattle.price.specs.declared.PriceAnswer.{PriceAnswer}
@@ -46,11 +48,11 @@ use Rattle.explain_answers.specs.declared.ExplainAnswer.{ExplainAnswer}
 use Rattle.explain_answers.specs.declared.Explanation.{Explanation}
 use Rattle.explain_answers.specs.declared.Explanation.the-variants.{Listed, Tried, PassedOver}
 use Rattle.explain_answers.specs.declared.ShiftKind.the-variants.{LastByte, Order, AfterOccurrence, LongRepeat}
-use Rattle.explanations.specs.Explanation.{explanation-in}
+use Rattle.explain_meaning.specs.Explanation.{explanation-in}
 use Rattle.explain.specs.Explain.{explain-status, Explain-outcome}
-use Rattle.explained_jobs.specs.Calls.{Explains}
-use Rattle.printer.specs.Printed.{report-status}
-use Rattle.printer.specs.declared.ReportAnswer.{ReportAnswer}
+use Rattle.explain_laws.specs.Calls.{Explains}
+use Rattle.report_lines.specs.Printed.{report-status}
+use Rattle.report_lines.specs.declared.ReportAnswer.{ReportAnswer}
 use Rattle.report.specs.Report.{seek-report, Report-outcome}
 
 -- what a row may claim of a pattern w (motif), a text t (chain) or a job file
@@ -84,6 +86,9 @@ pub data Claim : Type 0 where
   turning-gives : (way m q n pattern-len text-len : ℕ) → (status : ℕ) → Claim
   turning-leaves : (status way : ℕ) → (bytes buffer left : List ℕ) → Claim
   turn-answers-are : (given whole : TurnAnswer) → Claim
+  restored-are : (held frames bytes : List ℕ) → Claim
+  marked-are : (frame : ℕ) → (positions frames marked : List ℕ) → Claim
+  rule-right-is : (frame q : ℕ) → (w held frames : List ℕ) → (right : Bool) → Claim
   restoring-gives : (q : ℕ) → (w frames : List ℕ) → (text-len : ℕ) → (status : ℕ) → Claim
   restoring-leaves : (q : ℕ) → (w frames text left : List ℕ) → (given : Answer) → Claim
   job-costs : (q : ℕ) → (w t : List ℕ) → (pence : ℕ) → Claim
@@ -176,6 +181,9 @@ Holds (frames-are q w t these) = frames q w t ≡ these
 Holds (turning-gives way m q n pattern text status) = turn-status way m q n pattern text ≡ status
 Holds (turning-leaves s way bytes buffer left) = turned-left s way bytes buffer ≡ left
 Holds (turn-answers-are given whole) = given ≡ whole
+Holds (restored-are held these bytes) = all-restored held these ≡ bytes
+Holds (marked-are frame positions these marked) = with-holds frame positions these ≡ marked
+Holds (rule-right-is frame q w held these right) = rule-right frame q w held these ≡ right
 Holds (restoring-gives q w these text status) = restore-status q w these text ≡ status
 Holds (restoring-leaves q w these text left given) = Restore-outcome q w these text left given
 Holds (job-costs q w t pence) = job-cost q w t ≡ pence
@@ -546,7 +554,8 @@ examples =
     ∷ turning-leaves 8 2 (b ∷ a ∷ []) (1 ∷ 2 ∷ 3 ∷ []) (1 ∷ 2 ∷ 3 ∷ [])
     ∷ [])
     -- Document 02, "Back to cards": each hold becomes card w(q) again and each move its card. What is put back converts to the frames handed in.
-    -- The answer has zeros beside its number, and what is past n in the buffer stays
+    -- The answer has zeros beside its number, and what is past n in the buffer stays. 256 × k becomes what rule k holds, and what is no frame stays;
+    -- of each rule by its own number it is told whether its holds are right
     ∷ row 21
     (frames-are 2 aacaa listing listing-frames
     ∷ restoring-leaves 2 aacaa listing-frames (replicate 10 1) (a ∷ a ∷ c ∷ a ∷ a ∷ a ∷ c ∷ a ∷ a ∷ 1 ∷ []) (zeros-beside 0)
@@ -556,6 +565,14 @@ examples =
     ∷ restoring-gives 3 aaaa (replicate 4 256) 4 0
     ∷ restoring-gives 0 aaaa (a ∷ c ∷ a ∷ a ∷ []) 4 0
     ∷ restoring-gives 1 (a ∷ a ∷ []) (256 ∷ []) 1 0
+    ∷ restored-are (a ∷ c ∷ []) (0xFF ∷ 512 ∷ 0 ∷ 256 ∷ []) (0xFF ∷ c ∷ 0 ∷ a ∷ [])
+    ∷ restored-are (a ∷ c ∷ []) (257 ∷ 513 ∷ 768 ∷ 65535 ∷ []) (257 ∷ 513 ∷ 768 ∷ 65535 ∷ [])
+    ∷ restored-are (a ∷ c ∷ b ∷ []) (768 ∷ []) (b ∷ [])
+    ∷ marked-are 512 (2 ∷ 0 ∷ []) (a ∷ b ∷ c ∷ []) (512 ∷ b ∷ 512 ∷ [])
+    ∷ rule-right-is 256 0 (a ∷ b ∷ []) (a ∷ c ∷ []) (256 ∷ b ∷ 512 ∷ b ∷ []) true
+    ∷ rule-right-is 512 0 (c ∷ b ∷ []) (a ∷ c ∷ []) (256 ∷ b ∷ 512 ∷ b ∷ []) true
+    ∷ rule-right-is 512 0 (c ∷ b ∷ []) (a ∷ c ∷ []) (256 ∷ b ∷ c ∷ b ∷ []) false
+    ∷ rule-right-is 512 0 (c ∷ b ∷ []) (a ∷ c ∷ []) (256 ∷ b ∷ 256 ∷ b ∷ []) true
     ∷ [])
     -- Turned away: 9, frames that are no conversion under this motif and q: a hold without a find; a find without its hold, also over the seam; the
     -- holds of another q; numbers that are neither a move nor a hold. The buffer stays as it was
@@ -609,6 +626,8 @@ examples =
     ∷ job-costs 0 (0xFF ∷ []) (0x00 ∷ 0xFF ∷ []) 58
     ∷ job-costs 3 aaaa (replicate 6 a) 276
     ∷ job-costs 0 aac [] 0
+    ∷ frames-cost (0x00 ∷ 0xFF ∷ 0xFF ∷ []) (256 ∷ 512 ∷ 0xFF ∷ []) 113
+    ∷ frames-cost (0x00 ∷ []) (4096 ∷ []) 43
     ∷ [])
     -- Above 4,096 cards a rebate of 5 in 100 of the total, rounded down to a penny, comes off: of the total with its holds
     ∷ row 25
@@ -927,6 +946,9 @@ examples =
     ∷ turning-gives 4 1 0 1 1 1 0
     ∷ turning-leaves 0 2 (b ∷ a ∷ []) (1 ∷ 2 ∷ []) (1 ∷ 2 ∷ [])
     ∷ turn-answers-are (turn-answer 0 2 4 0) (turn-answered 0 0)
+    ∷ restored-are (a ∷ c ∷ []) (512 ∷ []) (a ∷ [])
+    ∷ marked-are 512 (0 ∷ []) (a ∷ []) (a ∷ [])
+    ∷ rule-right-is 512 0 (c ∷ []) (a ∷ c ∷ []) (512 ∷ []) false
     ∷ restoring-gives 0 (a ∷ []) (257 ∷ []) 1 0
     ∷ restoring-leaves 0 (c ∷ []) (256 ∷ []) (1 ∷ []) (1 ∷ []) (zeros-beside 0)
     ∷ job-costs 0 aac [] 1

@@ -2,7 +2,7 @@
 -- By the laws of a call that is taken and done. Assumes nothing.
 use borrow.Author.Needs.{needs}
 use Rattle.tables.specs.Buffers.{tables}
-use Rattle.explain.proofs.Taken.{Explain-fit, explain-fit, walk-ready, done}
+use Rattle.explain.proofs.Taken.{Explain-fit, explain-fit, reach-ready, done}
 use Rattle.explain.proofs.explain_within.Statement.{statement}
 use Rattle.explain.proofs.explain_within.Tie as tie
 
@@ -33,7 +33,7 @@ explain-within-spec =
     (λ c. search needs)
     (λ c κs.
     let w = written c in
-    walk-ready (w .write-tables .ensures .1) (fit (w .before)) (w .write-tables .ensures .0))
+    reach-ready (w .write-tables .ensures .1) (fit (w .before)) (w .write-tables .ensures .0))
     (λ c κs. search needs)
     (λ c. search needs)
     (λ c. search needs)

@@ -10,7 +10,7 @@ use Rattle.answers.proofs.Fronts.{in-front-take}
 use Rattle.answers.specs.Buffers.{in-front}
 use Rattle.prepare.proofs.write_order_and_shifts.Statement.{statement}
 use Rattle.prepare.proofs.write_order_and_shifts.Tie as tie
-use Rattle.delta2.specs.Links.{Order-stored}
+use Rattle.tables_delta2.specs.Links.{Order-stored}
 use Rattle.tables.proofs.Order.{stored-order-length}
 use Rattle.tables.specs.Buffers.{Pattern-taken}
 use Rattle.tables.specs.Tables.{stored-order}

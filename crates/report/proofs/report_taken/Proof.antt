@@ -9,10 +9,11 @@ use lib.IntN.{pos}
 use lib.ListN.{length, replicate, length-replicate}
 use Rattle.answers.proofs.Fronts.{zeros-length}
 use Rattle.tables.proofs.Rooms.{not-short}
+use Rattle.search.proofs.Searched.{search-fit}
 use Rattle.tables.specs.Buffers.{Tables, tables, Tables-fit, lengths}
 use Rattle.frames.proofs.Holds.{length-frames}
-use Rattle.converter.proofs.Converted.{frames-ready}
-use Rattle.converter.proofs.Taken.{Conversion-taken, search-taken}
+use Rattle.convert.proofs.Converted.{frames-ready}
+use Rattle.convert.proofs.Taken.{Conversion-taken, search-taken}
 use Rattle.report.proofs.Converted.{Converted, converted, report-of}
 use Rattle.report.proofs.report_taken.Statement.{statement}
 use Rattle.report.proofs.report_taken.Tie as tie
@@ -90,7 +91,7 @@ report-taken-spec =
     (λ c. zeros-length 32768)
     (λ c. zeros-length 128)
     (λ c. zeros-length 16384)
-    (λ c κs. search-taken (fit c))
+    (λ c κs. search-fit (search-taken (fit c)))
     (λ c. search needs)
     (λ c. zeros-length 16384)
     (λ c κs. let s = searched c in frames-ready (fit (s .before)) (s .search-within .ensures))

@@ -8,12 +8,12 @@ use lib.ListN.{length}
 use Rattle.answers.specs.Answers.{status-only, if-done}
 use Rattle.answers.specs.Buffers.{in-front}
 use Rattle.answers.specs.declared.Answer.{Answer}
-use Rattle.conversions.proofs.Restored.{all-frames}
+use Rattle.restore_conversions.proofs.Restored.{all-frames}
 use Rattle.restore.proofs.Taken.{Restorable, restorable}
 use Rattle.restore.proofs.restore.Statement.{statement}
 use Rattle.restore.proofs.restore.Tie as tie
 use Rattle.restore.specs.Restore.{restored-left, Restore-outcome-of}
-use Rattle.conversions.specs.Restored.{restored}
+use Rattle.restore_conversions.specs.Restored.{restored}
 
 -- a refused call answers its status and leaves the buffer
 refused : (s q : ℕ) (w gs text : List ℕ) (r : Answer) → (s ≡ 0 → ⊥) → r ≡ status-only s → Restore-outcome-of s q w gs text text r
@@ -41,7 +41,7 @@ returns-2 : tie.Need-returns-2
 unfolding restored
 returns-2 c =
     let written = c .before .before .before in
-    let job = written .before .before .before in
+    let job = written .before .before .before .before in
     rw (← job .before .restore-status .ensures, job .if1 .left)
     (done _ _ _ _ _ _ (c .status-only2 .ensures) (written .write-restored .ensures))
 
@@ -53,7 +53,8 @@ restore-spec =
     (λ c κs. search needs)
     returns
     (λ c. taken (c .before) .limits .hold-offset)
-    (λ c κs. let job = taken (c .before .before) in (all-frames _ _ _ (job .conversion), job .room))
+    (λ c. refl)
+    (λ c κs. let job = taken (c .before .before .before) in (all-frames _ _ _ (job .conversion), job .room))
     (λ c κs. search needs)
     (λ c. search needs)
     returns-2)

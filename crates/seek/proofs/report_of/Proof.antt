@@ -5,7 +5,7 @@ use native.Mathlib.Omega.{arith}
 use borrow.Author.Needs.{needs}
 use lib.ListN.{take}
 use lib.Seq.{length-take-le}
-use Rattle.printer.proofs.Outcome.{reported}
+use Rattle.report_lines.proofs.Outcome.{reported}
 use Rattle.report.proofs.Cut.{input-right}
 use Rattle.report.proofs.Fits.{report-fits}
 use Rattle.report.specs.Promises.{Report-fits, Input-right}

@@ -8,7 +8,7 @@ use native.Mathlib.Omega.{arith}
 use lib.ListN.{length, drop, length-drop, drop-of-length-le}
 use lib.Seq.{drop-cons}
 use Rattle.answers.proofs.Partly.{Partly-written, none-written, kept-length, one-more, all-written}
-use Rattle.blocks.proofs.Blocks.{front-kept, rest-written}
+use Rattle.copy_blocks.proofs.Blocks.{front-kept, rest-written}
 use Rattle.turn.proofs.Turned.{length-turned, turned-entry, index-inside}
 use Rattle.turn.proofs.write_turned.Statement.{statement}
 use Rattle.turn.proofs.write_turned.Tie as tie

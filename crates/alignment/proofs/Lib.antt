@@ -1,0 +1,4 @@
+pub mod Stored
+pub mod Entries
+pub mod Laying
+pub mod Along

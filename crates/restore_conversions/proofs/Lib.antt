@@ -1,0 +1,4 @@
+pub mod Numbered
+pub mod Restored
+pub mod Walked
+pub mod One

@@ -1,0 +1,3 @@
+pub mod Stretch
+pub mod Moved
+pub mod Passing

@@ -1,0 +1,2 @@
+// A job that is turned, searched, converted and counted: statements in specs/, and their proofs in
+// proofs/.

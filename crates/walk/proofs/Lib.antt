@@ -1,3 +1,0 @@
-pub mod Walked
-pub mod Passing
-pub mod Row
