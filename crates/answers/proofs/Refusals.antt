@@ -32,6 +32,20 @@ pub none-done : (rs : List Refusal) → None-holds rs → first-of rs ≡ 0
 unfolding first-of
 none-done rs h = rw append-nil at (first-past rs [] h)
 
+-- none of the conditions of two lists holds just where none of either does
+pub none-both : (rs ss : List Refusal) → None-holds (rs ++ ss) → None-holds rs × None-holds ss
+none-both [] ss h = (tt, h)
+none-both (r ∷ rs) ss h = let (front, back) = none-both rs ss (h .1) in ((h .0, front), back)
+
+pub both-none : (rs ss : List Refusal) → None-holds rs → None-holds ss → None-holds (rs ++ ss)
+both-none [] ss h k = k
+both-none (r ∷ rs) ss h k = (h .0, both-none rs ss (h .1) k)
+
+-- none of the numbers of two lists is 0
+pub numbered-both : (rs ss : List Refusal) → Numbered rs → Numbered ss → Numbered (rs ++ ss)
+numbered-both [] ss h k = k
+numbered-both (r ∷ rs) ss h k = (h .0, numbered-both rs ss (h .1) k)
+
 -- a status other than 0 is the number of the first condition that holds
 refused-first : (rs : List Refusal) (number : ℕ) → number ≢ 0 → first-of rs ≡ number → First-holds rs number
 unfolding first-of

@@ -90,7 +90,7 @@ unfolding Holds-once
 holds-once q w t h bytes = rw (holds-listed q w t (bytes-entry t bytes)) (holds-apart q w t (omega arith))
 
 -- holds inside the first of two lists are marked there
-with-holds-append :
+pub with-holds-append :
     (x : ℕ) (n q : ℕ) (bs first second : List ℕ) → (1 ≤ length bs → 1 ≤ n) → n ≤ length first →
     with-holds x (holds n q bs) (first ++ second) ≡ with-holds x (holds n q bs) first ++ second
 unfolding with-holds holds

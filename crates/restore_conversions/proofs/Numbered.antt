@@ -3,8 +3,9 @@
 use mathlib.Core.Bool.{true, cond, and-eq-true-iff}
 use mathlib.Core.List.{List, [], _∷_}
 use mathlib.Core.Logic.{_⊎_, inl, inr, ⊎-elim}
-use mathlib.Core.Path.{_≡_, sym, _∙_}
-use Prim.Native.Nat.{ℕ, suc, _-_, _*_, _/_, _%_, _≤_, _<_}
+use mathlib.Core.Path.{_≡_, sym, _∙_, ap}
+use Prim.Native.Nat.{ℕ, suc, _+_, _-_, _*_, _/_, _%_, _≤_, _<_}
+use native.Mathlib.Nat.{add-zero, zero-add}
 use native.Mathlib.Omega.{arith}
 use borrow.Author.Tests.{lt-ltb, le-ltb, leb-true, le-leb, lt-leb, eqb-true, eq-eqb, ne-eqb}
 use lib.Dec.{leb, eqb}
@@ -12,6 +13,7 @@ use lib.ListN.{length, getD, length-map, List·getD-map}
 use Rattle.tables.proofs.Cases.{true-or-false, clash, eq-or-ne, le-or-lt}
 use Rattle.frames.specs.Frames.{hold, is-hold}
 use Rattle.restore_conversions.specs.Restored.{is-frame, names-rule, restored-byte, all-restored}
+use Rattle.restore_conversions.specs.Walk.{behind, Zero-first}
 
 module _ (c g : ℕ) where
   pub move-is-frame : g < 256 → is-frame c g ≡ true
@@ -72,6 +74,35 @@ module _ (hs : List ℕ) where
       (λ m. absurd (omega arith))
       (λ y. let (k, inside, is) = named (length hs) g y in (omega arith, rw y))
       (frame-cases (length hs) g e)
+
+-- a list with a 0 in front of the bytes held: the byte of a rule stands at its number, and a move finds the 0
+module _ (bs : List ℕ) (zero : Zero-first bs) (g : ℕ) (e : is-frame (length (behind bs)) g ≡ true) where
+  kinds : ((g < 256) × (getD bs (g / 256) 0 ≡ 0)) ⊎ ((k : ℕ) × (k < length (behind bs)) × (g ≡ 256 * suc k))
+  kinds =
+      ⊎-elim
+      (λ l. let none : g / 256 ≡ 0 = omega arith in inl (l, rw none (ap (λ l. getD l 0 0) zero)))
+      (λ y. inr (named (length (behind bs)) g y))
+      (frame-cases (length (behind bs)) g e)
+
+  pub number-inside : g / 256 < length bs
+  number-inside =
+      let size : length bs ≡ suc (length (behind bs)) = ap length zero in
+      ⊎-elim (λ (l, none). omega arith) (λ (k, inside, is). omega arith) kinds
+
+  -- so one of the two that are added is 0
+  pub one-is-zero : (g % 256 ≡ 0) ⊎ (getD bs (g / 256) 0 ≡ 0)
+  one-is-zero = ⊎-elim (λ (l, none). inr none) (λ (k, inside, is). inl (omega arith)) kinds
+
+  pub numbered-restored : g % 256 + getD bs (g / 256) 0 ≡ restored-byte (behind bs) g
+  numbered-restored =
+      ⊎-elim
+      (λ (l, none).
+      let own : g % 256 ≡ g = omega arith in
+      rw (none, own) (add-zero g ∙ sym (move-restored (behind bs) g l)))
+      (λ (k, inside, is).
+      let (at, whole) : (g / 256 ≡ suc k) × (g % 256 ≡ 0) = (omega arith, omega arith) in
+      rw (at, whole) (zero-add _ ∙ ap (λ l. getD l (suc k) 0) zero ∙ sym (rw (← is) at (hold-restored (behind bs) k inside))))
+      kinds
 
 -- the frames of one rule are those up to 256, and just 256 is its hold
 module _ (g : ℕ) where

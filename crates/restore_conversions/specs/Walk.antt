@@ -1,11 +1,11 @@
 -- What the functions that test frames ask of each other and tell: frames that are moves or holds, a pattern with its links, which holds of a rule
 -- are right, and how far the frames are walked over. These are definitions.
 use mathlib.Core.Bool.{Bool, true, Bool·beq}
-use mathlib.Core.List.{List}
+use mathlib.Core.List.{List, _∷_}
 use mathlib.Core.Path.{_≡_}
 use Prim.Native.Nat.{ℕ, _+_, _-_, _%_, _≤_, _<_}
 use lib.Dec.{eqb}
-use lib.ListN.{length, getD}
+use lib.ListN.{length, getD, drop}
 use Rattle.tables.specs.Least.{all-from}
 use Rattle.steps.specs.Text.{shown}
 use Rattle.frames.specs.Frames.{is-held}
@@ -21,11 +21,20 @@ pub record All-frames (count : ℕ) (gs : List ℕ) : Type 0 where
 abbrev pub frame-at : (gs : List ℕ) → (x : ℕ) → ℕ
 frame-at gs x = getD gs (x % length gs) 0
 
--- a pattern that is not empty, all its links, and frames by so many rules
-pub record Walk-ready (count : ℕ) (w links gs : List ℕ) : Type 0 where
+-- the bytes that the rules hold, of a list that has the byte of rule k at k
+abbrev pub behind : (bytes : List ℕ) → List ℕ
+behind bs = drop 1 bs
+
+-- such a list has a 0 in front
+abbrev pub Zero-first : (bytes : List ℕ) → Type 0
+Zero-first bs = bs ≡ 0 ∷ behind bs
+
+-- the bytes held by number, a pattern that is not empty, all its links, and frames by these rules
+pub record Walk-ready (bytes w links gs : List ℕ) : Type 0 where
+  pub zero : Zero-first bytes
   pub some : 1 ≤ length w
   pub linked : Links-to (length w) w links
-  pub frames : All-frames count gs
+  pub frames : All-frames (length (behind bytes)) gs
 
 -- the frame of a hold, the hold offset and the pattern of one of the rules; the bytes that all of them hold
 module _ (frame q : ℕ) (w hs gs : List ℕ) where

@@ -7,8 +7,8 @@ ghost use Rattle.answers.specs.Contracts.{before};
 ghost use Rattle.answers.specs.Refusals.{longest-pattern};
 ghost use Rattle.restore_conversions.specs.Restored.{is-frame, restored-byte, all-restored};
 ghost use Rattle.restore_conversions.specs.Restored.{is-conversion};
-ghost use Rattle.restore_conversions.specs.Walk.{All-frames, frame-at, Walk-ready, Walked};
-ghost use Rattle.restore_conversions.specs.Walk.{rule-right};
+ghost use Rattle.restore_conversions.specs.Walk.{All-frames, frame-at, behind, Zero-first};
+ghost use Rattle.restore_conversions.specs.Walk.{Walk-ready, Walked, rule-right};
 ghost use Rattle.restore_prefixes.specs.Links.{Links-to};
 ghost use Rattle.restore_prefixes.specs.Prefixes.{longest-prefix, extended};
 ghost use Rattle.steps.specs.Text.{shown};
@@ -28,6 +28,16 @@ pub fn restored_byte(held: &[u8], frame: u16) -> u8
     } else {
         held[(frame / HOLD) as usize - 1]
     }
+}
+
+// The same for a walk, with no jump: `bytes` is a 0 and then the bytes that the rules hold, so
+// that a hold of rule k finds its byte at k, and a move, which is its own byte, the 0.
+fn numbered_byte(bytes: &[u8], frame: u16) -> u8
+    requires zero { ⌜ Zero-first (now bytes) ⌝ }
+    requires frame { ⌜ is-frame (length (behind (now bytes))) frame ≡ true ⌝ }
+    ensures { λ r. ⌜ r ≡ restored-byte (behind (before bytes)) frame ⌝ }
+{
+    (frame % HOLD) as u8 + bytes[(frame / HOLD) as usize]
 }
 
 // Whether a number is a frame, a move or a hold of one of `count` rules. One rule's are those up to
@@ -65,27 +75,29 @@ fn frame_at(frames: &[u16], x: usize) -> u16
 
 // The longest prefix of the pattern that ends after a frame, from the longest that ends before it,
 // by the byte that the frame is put back to.
-fn prefix_on(pattern: &[u8], links: &[u8], held: &[u8], frame: u16, prefix: usize) -> usize
+fn prefix_on(pattern: &[u8], links: &[u8], bytes: &[u8], frame: u16, prefix: usize) -> usize
     requires some { ⌜ 1 ≤ length (now pattern) ⌝ }
     requires linked { ⌜ Links-to (length (now pattern)) (now pattern) (now links) ⌝ }
-    requires frame { ⌜ is-frame (length (now held)) frame ≡ true ⌝ }
+    requires zero { ⌜ Zero-first (now bytes) ⌝ }
+    requires frame { ⌜ is-frame (length (behind (now bytes))) frame ≡ true ⌝ }
     requires within { ⌜ prefix ≤ length (now pattern) ⌝ }
-    ensures { λ r. ⌜ r ≡ extended (before pattern) prefix (restored-byte (before held) frame) ⌝ }
+    ensures { λ r. ⌜ r ≡ extended (before pattern) prefix
+        (restored-byte (behind (before bytes)) frame) ⌝ }
 {
-    restore_prefixes::extended(pattern, links, prefix, restored_byte(held, frame))
+    restore_prefixes::extended(pattern, links, prefix, numbered_byte(bytes, frame))
 }
 
 // The longest prefix of the pattern that ends after the first `count` positions of the ring, by the
 // bytes put back.
-fn prefix_after(pattern: &[u8], links: &[u8], held: &[u8], frames: &[u16], count: usize) -> usize
-    requires ready { ⌜ Walk-ready (length (now held)) (now pattern) (now links) (now frames) ⌝ }
+fn prefix_after(pattern: &[u8], links: &[u8], bytes: &[u8], frames: &[u16], count: usize) -> usize
+    requires ready { ⌜ Walk-ready (now bytes) (now pattern) (now links) (now frames) ⌝ }
     requires some { ⌜ 1 ≤ length (now frames) ⌝ }
-    ensures { λ r. ⌜ r ≡ longest-prefix (shown (all-restored (before held) (before frames)))
-        (before pattern) count ⌝ }
+    ensures { λ r. ⌜ r ≡ longest-prefix
+        (shown (all-restored (behind (before bytes)) (before frames))) (before pattern) count ⌝ }
 {
     let mut prefix = 0;
     for x in 0..count {
-        prefix = prefix_on(pattern, links, held, frame_at(frames, x), prefix);
+        prefix = prefix_on(pattern, links, bytes, frame_at(frames, x), prefix);
     }
     prefix
 }
@@ -98,17 +110,17 @@ fn rest_matches(
     hold_offset: usize,
     pattern: &[u8],
     links: &[u8],
-    held: &[u8],
+    bytes: &[u8],
     frames: &[u16],
     start: usize,
     prefix: usize,
 ) -> bool
-    requires ready { ⌜ Walk-ready (length (now held)) (now pattern) (now links) (now frames) ⌝ }
+    requires ready { ⌜ Walk-ready (now bytes) (now pattern) (now links) (now frames) ⌝ }
     requires some { ⌜ 1 ≤ length (now frames) ⌝ }
     requires offset { ⌜ «hold_offset» < length (now pattern) ⌝ }
-    requires walked { ⌜ Walked hold «hold_offset» (now pattern) (now held) (now frames) start
-        prefix ⌝ }
-    ensures { λ r. ⌜ r ≡ rule-right hold «hold_offset» (before pattern) (before held)
+    requires walked { ⌜ Walked hold «hold_offset» (now pattern) (behind (now bytes)) (now frames)
+        start prefix ⌝ }
+    ensures { λ r. ⌜ r ≡ rule-right hold «hold_offset» (before pattern) (behind (before bytes))
         (before frames) ⌝ }
 {
     let last = pattern.len() - 1;
@@ -117,7 +129,7 @@ fn rest_matches(
     for b in start..n {
         let is_hold = frame_at(frames, b + hold_offset) == hold;
         let frame = frame_at(frames, b + last);
-        longest = prefix_on(pattern, links, held, frame, longest);
+        longest = prefix_on(pattern, links, bytes, frame, longest);
         if is_hold != (last < longest) {
             return false;
         }
@@ -137,26 +149,26 @@ fn holds_match(
     hold_offset: usize,
     pattern: &[u8],
     links: &[u8],
-    held: &[u8],
+    bytes: &[u8],
     frames: &[u16],
 ) -> bool
-    requires ready { ⌜ Walk-ready (length (now held)) (now pattern) (now links) (now frames) ⌝ }
+    requires ready { ⌜ Walk-ready (now bytes) (now pattern) (now links) (now frames) ⌝ }
     requires some { ⌜ 1 ≤ length (now frames) ⌝ }
     requires offset { ⌜ «hold_offset» < length (now pattern) ⌝ }
-    ensures { λ r. ⌜ r ≡ rule-right hold «hold_offset» (before pattern) (before held)
+    ensures { λ r. ⌜ r ≡ rule-right hold «hold_offset» (before pattern) (behind (before bytes))
         (before frames) ⌝ }
 {
     let last = pattern.len() - 1;
-    let mut prefix = prefix_after(pattern, links, held, frames, last);
+    let mut prefix = prefix_after(pattern, links, bytes, frames, last);
     if frames.len() <= last {
-        return rest_matches(hold, hold_offset, pattern, links, held, frames, 0, prefix);
+        return rest_matches(hold, hold_offset, pattern, links, bytes, frames, 0, prefix);
     }
     let holds = &frames[hold_offset..];
     let ends = &frames[last..];
     let inside = ends.len();
     for b in 0..inside {
         let is_hold = holds[b] == hold;
-        prefix = prefix_on(pattern, links, held, ends[b], prefix);
+        prefix = prefix_on(pattern, links, bytes, ends[b], prefix);
         if is_hold != (last < prefix) {
             return false;
         }
@@ -166,7 +178,7 @@ fn holds_match(
         hold_offset,
         pattern,
         links,
-        held,
+        bytes,
         frames,
         inside,
         prefix,
@@ -174,25 +186,26 @@ fn holds_match(
 }
 
 // Whether the holds of one of some rules are right in frames by them; `hold` is the frame of its
-// holds, and `held` are the bytes that all of them hold.
+// holds, and `bytes` is a 0 and then the bytes that all of them hold.
 pub fn rule_matches(
     hold: u16,
     hold_offset: usize,
     pattern: &[u8],
-    held: &[u8],
+    bytes: &[u8],
     frames: &[u16],
 ) -> bool
     requires offset { ⌜ «hold_offset» < length (now pattern) ⌝ }
     requires short_pattern { ⌜ length (now pattern) ≤ longest-pattern ⌝ }
-    requires frames { ⌜ All-frames (length (now held)) (now frames) ⌝ }
-    ensures { λ r. ⌜ r ≡ rule-right hold «hold_offset» (before pattern) (before held)
+    requires zero { ⌜ Zero-first (now bytes) ⌝ }
+    requires frames { ⌜ All-frames (length (behind (now bytes))) (now frames) ⌝ }
+    ensures { λ r. ⌜ r ≡ rule-right hold «hold_offset» (before pattern) (behind (before bytes))
         (before frames) ⌝ }
 {
     if frames.len() == 0 {
         return true;
     }
     let links = restore_prefixes::links(pattern);
-    holds_match(hold, hold_offset, pattern, &links, held, frames)
+    holds_match(hold, hold_offset, pattern, &links, bytes, frames)
 }
 
 // Whether frames are a conversion by one pattern; no frames are that of an empty text.
@@ -204,6 +217,6 @@ pub fn is_conversion(hold_offset: usize, pattern: &[u8], frames: &[u16]) -> bool
     if !all_frames(1, frames) {
         return false;
     }
-    let held = [pattern[hold_offset]; 1];
-    rule_matches(HOLD, hold_offset, pattern, &held, frames)
+    let bytes = [0, pattern[hold_offset]];
+    rule_matches(HOLD, hold_offset, pattern, &bytes, frames)
 }

@@ -7,8 +7,8 @@ use mathlib.Core.Path.{_≡_, sym, _∙_}
 use Prim.Native.Nat.{ℕ, _+_, _%_, _≤_, _<_}
 use native.Mathlib.Nat.{mod-lt}
 use native.Mathlib.Omega.{arith}
-use lib.ListN.{length, drop-of-length-le}
-use lib.Seq.{take-all, ext-getD}
+use lib.ListN.{length}
+use lib.Seq.{ext-getD}
 use Rattle.tables.proofs.Cases.{le-or-lt}
 use Rattle.tables.specs.Sets.{byte}
 use Rattle.ring.proofs.Ascending.{passing-ascends}
@@ -20,13 +20,13 @@ use Rattle.frames.specs.Frames.{is-hold, is-held, frames}
 use Rattle.frames.specs.Promises.{holds-of, Holds-right}
 use Rattle.price_tariff.proofs.Cost.{cost-held}
 use Rattle.price_tariff.specs.Sums.{bytes-total, cost-by-holds}
-use Rattle.price_tariff.specs.Tariff.{byte-price}
+use Rattle.price_tariff.specs.Tariff.{byte-price, cost}
 use Rattle.rotation_laws.proofs.Occurrences.{occurs-rotated}
-use Rattle.rotation_laws.proofs.Rotated.{length-rotated, rotated-entry, sum-rotated}
+use Rattle.rotation_laws.proofs.Rotated.{length-rotated, started-past, rotated-entry, sum-rotated}
 use Rattle.rotation_laws.specs.Promises.{rotated, Frames-rotated, Cost-rotated}
 
 -- frame i of the ring started later is held just where the one r further on was
-held-rotated :
+pub held-rotated :
     (r q : ℕ) (w t : List ℕ) → 1 ≤ length w → r ≤ length t → (i : ℕ) → i < length t →
     is-held q w (rotated r t) i ≡ is-held q w t ((i + r) % length t)
 held-rotated r q w t some h i l =
@@ -63,20 +63,26 @@ holds-rotated r gs h =
     let moved = passing-moved v (λ i. is-hold (byte (rotated r gs) i)) (λ i. is-hold (byte gs i)) (λ i l. rw (rotated-entry r gs h i l)) in
     rw (length-rotated r gs, moved) (ascending-count v 0 (holds-of gs) (passing-ascends _ 0 (length gs) _ (omega arith)))
 
-pub cost-rotated : Cost-rotated
-unfolding Cost-rotated Frames-rotated cost-by-holds bytes-total rotated
-cost-rotated r q w t some =
-    let gs = frames q w t in
-    let size = length-frames q w t in
+-- and so a text with these frames costs the same
+pub cost-alike : (r : ℕ) (t gs : List ℕ) → length gs ≡ length t → cost (rotated r t) (rotated r gs) ≡ cost t gs
+unfolding cost-by-holds bytes-total
+cost-alike r t gs size =
     ⊎-elim
-    (λ past. rw (drop-of-length-le t past, take-all r t past))
+    (λ past. rw (started-past r t past, started-past r gs (omega arith)))
     (λ inside.
     rw (
-      frames-rotated r q w t some (omega arith),
       cost-held (rotated r t) (rotated r gs) (length-rotated r gs ∙ size ∙ sym (length-rotated r t)),
       cost-held t gs size,
       holds-rotated r gs (omega arith),
       sum-rotated byte-price r t,
       length-rotated r t,
     ))
+    (le-or-lt (length t) r)
+
+pub cost-rotated : Cost-rotated
+unfolding Cost-rotated Frames-rotated
+cost-rotated r q w t some =
+    ⊎-elim
+    (λ past. rw (started-past r t past))
+    (λ inside. rw (frames-rotated r q w t some (omega arith)) (cost-alike r t (frames q w t) (length-frames q w t)))
     (le-or-lt (length t) r)

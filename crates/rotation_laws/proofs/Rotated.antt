@@ -7,8 +7,9 @@ use Prim.Native.Nat.{ℕ, _+_, _-_, _%_, _≤_, _<_}
 use native.Mathlib.Nat.{mod-lt, mod-eq-of-lt, mod-add-mod, add-mod-right}
 use native.Mathlib.Omega.{arith}
 use lib.Count.{ones}
-use lib.ListN.{length, take, drop, length-append, length-drop, take-append-drop, List·getD-append, List·getD-eq-default}
-use lib.Seq.{getD-append-add, getD-take, getD-drop}
+use lib.ListN.{length, take, drop, length-append, length-drop, drop-of-length-le, take-append-drop}
+use lib.ListN.{List·getD-append, List·getD-eq-default}
+use lib.Seq.{take-all, getD-append-add, getD-take, getD-drop}
 use Rattle.tables.proofs.Cases.{eq-or-ne, le-or-lt}
 use Rattle.tables.specs.Sets.{byte}
 use Rattle.steps.proofs.Text.{shown-at}
@@ -19,6 +20,11 @@ pub length-rotated : (r : ℕ) (t : List ℕ) → length (rotated r t) ≡ lengt
 unfolding rotated
 length-rotated r t =
     omega (arith, length-append (drop r t) (take r t), length-append (take r t) (drop r t), ap length (take-append-drop r t))
+
+-- past the end it is the ring as it was
+pub started-past : (r : ℕ) (t : List ℕ) → length t ≤ r → rotated r t ≡ t
+unfolding rotated
+started-past r t past = rw (drop-of-length-le t past, take-all r t past)
 
 pub rotated-entry : (r : ℕ) (t : List ℕ) → r ≤ length t → (i : ℕ) → i < length t → byte (rotated r t) i ≡ byte t ((i + r) % length t)
 unfolding rotated

@@ -60,6 +60,12 @@ unfolding all-from
 each-all zero i f h = refl
 each-all (suc n) i f h = rw (h i (omega arith) (omega arith)) (each-all n (suc i) f (λ k l g. h k (omega arith) (omega arith)))
 
+-- tests that agree pass alike
+pub all-same : (n i : ℕ) (f g : ℕ → Bool) → ((k : ℕ) → f k ≡ g k) → all-from n i f ≡ all-from n i g
+unfolding all-from
+all-same zero i f g h = refl
+all-same (suc n) i f g h = rw (h i, all-same n (suc i) f g h)
+
 -- a run that fails has a number that fails
 pub some-fails : (n i : ℕ) (f : ℕ → Bool) → all-from n i f ≡ false → (k : ℕ) × (i ≤ k) × (k < i + n) × (f k ≡ false)
 unfolding all-from

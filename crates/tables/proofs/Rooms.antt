@@ -3,7 +3,7 @@
 use mathlib.Core.Bool.{false}
 use mathlib.Core.List.{List}
 use mathlib.Core.Path.{_≡_, _∙_}
-use Prim.Native.Nat.{ℕ}
+use Prim.Native.Nat.{ℕ, _≤_}
 use native.Mathlib.Omega.{arith}
 use borrow.Author.Tests.{ltb-false, le-ltb}
 use lib.Dec.{ltb}
@@ -15,23 +15,42 @@ use Rattle.answers.specs.Answers.{if-done}
 use Rattle.answers.specs.Refusals.{pattern-refusal}
 use Rattle.tables.proofs.LaterShift.{Δ2-end}
 use Rattle.tables.proofs.Stored.{stored-Δ2-length, stored-Δ2-entry}
-use Rattle.tables.specs.Buffers.{Tables, lengths, needed, Pattern-taken, Tables-fit, tables-short, with-tables, tables-left, Tables-written}
+use Rattle.tables.specs.Buffers.{Tables, lengths, needed, short-of, tables-short, with-tables, tables-left}
+use Rattle.tables.specs.Buffers.{Pattern-taken, Tables-fit, Tables-written}
 use Rattle.tables.specs.Tables.{period, stored-Δ2}
+use Rattle.tables.specs.declared.TableLengths.{TableLengths}
+
+-- none of the buffers is too short
+pub record Roomy (need l : TableLengths) : Type 0 where
+  pub order : need .order ≤ l .order
+  pub delta2 : need .delta2 ≤ l .delta2
+  pub delta1 : need .delta1 ≤ l .delta1
+  pub delta3 : need .delta3 ≤ l .delta3
+
+pub roomy : (need l : TableLengths) → short-of need l ≡ false → Roomy need l
+roomy need l e =
+    let (first-three, delta3) = neither _ (ltb (l .delta3) (need .delta3)) e in
+    let (first-two, delta1) = neither _ (ltb (l .delta1) (need .delta1)) first-three in
+    let (order, delta2) = neither (ltb (l .order) (need .order)) (ltb (l .delta2) (need .delta2)) first-two in
+    record {
+      order = ltb-false _ _ order;
+      delta2 = ltb-false _ _ delta2;
+      delta1 = ltb-false _ _ delta1;
+      delta3 = ltb-false _ _ delta3;
+    }
 
 module _ {w : List ℕ} {lent : Tables} where
   pub tables-fit : pattern-refusal (length w) .holds ≡ false → tables-short (length w) (lengths lent) ≡ false → Tables-fit w lent
   tables-fit pattern room =
       let m = length w in
       let (some, few) = pattern-within m pattern in
-      let (first-three, delta3) = neither _ (ltb (length (lent .delta3)) (needed m .delta3)) room in
-      let (first-two, delta1) = neither _ (ltb (length (lent .delta1)) (needed m .delta1)) first-three in
-      let (order, delta2) = neither (ltb (length (lent .order)) (needed m .order)) (ltb (length (lent .delta2)) (needed m .delta2)) first-two in
+      let rooms = roomy (needed m) (lengths lent) room in
       record {
         taken = record { some = some; few = few };
-        order-room = ltb-false _ _ order;
-        delta2-room = ltb-false _ _ delta2;
-        delta1-room = ltb-false _ _ delta1;
-        delta3-room = ltb-false _ _ delta3;
+        order-room = rooms .order;
+        delta2-room = rooms .delta2;
+        delta1-room = rooms .delta1;
+        delta3-room = rooms .delta3;
       }
 
   pub not-short : Tables-fit w lent → tables-short (length w) (lengths lent) ≡ false

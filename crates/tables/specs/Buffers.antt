@@ -43,13 +43,17 @@ lengths x = record { order = length (x .order); delta2 = length (x .delta2); del
 abbrev pub needed : (m : ℕ) → TableLengths
 needed m = record { order = m + 1; delta2 = m + 1; delta1 = 256 * m; delta3 = m }
 
+-- a buffer has fewer entries than these
+abbrev pub short-of : TableLengths → TableLengths → Bool
+short-of need l =
+    ltb (l .order) (need .order)
+    || ltb (l .delta2) (need .delta2)
+    || ltb (l .delta1) (need .delta1)
+    || ltb (l .delta3) (need .delta3)
+
 -- a buffer is too short
 abbrev pub tables-short : (m : ℕ) → TableLengths → Bool
-tables-short m l =
-    ltb (l .order) (needed m .order)
-    || ltb (l .delta2) (needed m .delta2)
-    || ltb (l .delta1) (needed m .delta1)
-    || ltb (l .delta3) (needed m .delta3)
+tables-short m l = short-of (needed m) l
 
 -- a pattern's length is one that is taken
 pub record Pattern-taken (w : List ℕ) : Type 0 where

@@ -63,7 +63,7 @@ prices-turned way q w t p p' x x' r hw ht o e c d priced priced' =
     cost ∙ cost-turned way q w t hw ht (turn-taken o e .limits .hold-offset) ∙ sym (pence-by priced)
 
 -- counting answers the same of a text turned
-same-count : (way : ℕ) (t : List ℕ) → Bytes t → count-answer (turned way t) ≡ count-answer t
+pub same-count : (way : ℕ) (t : List ℕ) → Bytes t → count-answer (turned way t) ≡ count-answer t
 unfolding count-answer Ones-turned
 same-count way t h = rw (length-turned, ones-turned way t h)
 

@@ -5,7 +5,6 @@ use mathlib.Core.Bool.{cond}
 use mathlib.Core.List.{List, map}
 use mathlib.Core.Path.{_≡_}
 use Prim.Native.Nat.{ℕ, _+_, _≤_, _<_}
-use lib.Dec.{eqb}
 use lib.ListN.{length}
 use Rattle.answers.specs.Bytes.{Bytes}
 use Rattle.tables.specs.Tables.{period}
@@ -13,7 +12,7 @@ use Rattle.steps.specs.Bound.{search-bound}
 use Rattle.steps.specs.Occurrences.{occurrences}
 use Rattle.ring.specs.Ring.{back, ascending}
 use Rattle.ones.specs.Ones.{ones-of}
-use Rattle.frames.specs.Frames.{hold, frames}
+use Rattle.frames.specs.Frames.{is-hold, frames}
 use Rattle.turn_mirror.specs.Mirrored.{mirrored}
 use Rattle.turn.specs.Turned.{reverses, turned-by, turned, turned-index}
 use Rattle.price.specs.Price.{job-cost}
@@ -48,9 +47,10 @@ Bound-turned =
     (way : ℕ) (w t : List ℕ) → 1 ≤ length w → Bytes w → Bytes t →
     search-bound (turned way w) (turned way t) ≡ search-bound w t
 
--- a frame mirrored: a hold stays a hold, and a move is one with its byte (card) mirrored
+-- a frame mirrored: a hold, of whichever rule, stays as it is, and a move is one with its byte
+-- (card) mirrored
 unfoldable pub mirrored-frame : (frame : ℕ) → ℕ
-mirrored-frame f = cond (eqb f hold) hold (mirrored f)
+mirrored-frame f = cond (is-hold f) f (mirrored f)
 
 -- frames turned in a way
 unfoldable pub turned-frames : (way : ℕ) → (frames : List ℕ) → List ℕ

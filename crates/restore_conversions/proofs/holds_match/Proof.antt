@@ -13,13 +13,13 @@ use Rattle.restore_prefixes.proofs.Walk.{prefix-within}
 use Rattle.restore_conversions.proofs.Walked.{frame-around, walked-first, walked-on, wrong-fails}
 use Rattle.restore_conversions.proofs.holds_match.Statement.{statement}
 use Rattle.restore_conversions.proofs.holds_match.Tie as tie
-use Rattle.restore_conversions.specs.Walk.{frame-at, Walked}
+use Rattle.restore_conversions.specs.Walk.{frame-at, behind, Walked}
 
 abbrev Inv-loop : tie.InvT-loop
-Inv-loop hold hold-offset pattern links held frames last prefix₀ holds ends inside b₀ prefix b = (b ≤ inside) × Walked hold hold-offset pattern held frames b prefix
+Inv-loop hold hold-offset pattern links bytes frames last prefix₀ holds ends inside b₀ prefix b = (b ≤ inside) × Walked hold hold-offset pattern (behind bytes) frames b prefix
 
 abbrev μ-loop : tie.MeasureT-loop
-μ-loop hold hold-offset pattern links held frames last prefix₀ holds ends inside b₀ prefix b = inside - b
+μ-loop hold hold-offset pattern links bytes frames last prefix₀ holds ends inside b₀ prefix b = inside - b
 
 -- the frames from k on: how many they are, and where the ring has them
 module _ (gs : List ℕ) (k : ℕ) where
@@ -80,7 +80,7 @@ prefix-on-requires c κs =
     let now = c .before .before in
     let (ready, (some, rest)) = begun now .pre in
     let low = frame-around _ (gs now) (ready .frames) some (at now .loop .b + last now) _ (end-read now) in
-    (ready .some, (ready .linked, (low, prefix-within _ _ _ _ (at now .loop .inv .1 .here))))
+    (ready .some, (ready .linked, (ready .zero, (low, prefix-within _ _ _ _ (at now .loop .inv .1 .here)))))
 
 returns-2 : tie.Need-returns-2 Inv-loop μ-loop
 returns-2 c =

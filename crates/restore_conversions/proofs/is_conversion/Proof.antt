@@ -31,5 +31,5 @@ is-conversion-spec =
     (λ c. refl)
     (λ c κs.
     let pre = c .before .before .before .before .before .before .pre in
-    (pre .0, (pre .1, passed (c .before .before))))
+    (pre .0, (pre .1, (refl, passed (c .before .before)))))
     returns-2)

@@ -11,13 +11,14 @@ use Rattle.restore_conversions.proofs.Walked.{frame-around, prefix-on}
 use Rattle.restore_conversions.proofs.prefix_after.Statement.{statement}
 use Rattle.restore_conversions.proofs.prefix_after.Tie as tie
 use Rattle.restore_conversions.specs.Restored.{all-restored}
+use Rattle.restore_conversions.specs.Walk.{behind}
 
 abbrev Inv-loop : tie.InvT-loop
-Inv-loop pattern links held frames count prefix₀ x₀ prefix x =
-    (x ≤ count) × (prefix ≡ longest-prefix (shown (all-restored held frames)) pattern x)
+Inv-loop pattern links bytes frames count prefix₀ x₀ prefix x =
+    (x ≤ count) × (prefix ≡ longest-prefix (shown (all-restored (behind bytes) frames)) pattern x)
 
 abbrev μ-loop : tie.MeasureT-loop
-μ-loop pattern links held frames count prefix₀ x₀ prefix x = count - x
+μ-loop pattern links bytes frames count prefix₀ x₀ prefix x = count - x
 
 -- the places of the code: the loop and its start
 abbrev start : tie.At-loop Inv-loop μ-loop → tie.Start Inv-loop μ-loop
@@ -27,7 +28,7 @@ prefix-on-requires : tie.Need-prefix-on-requires Inv-loop μ-loop
 prefix-on-requires c κs =
     let at = c .before .before in
     let (ready, some) = start at .pre in
-    (ready .some, (ready .linked, (frame-around _ _ (ready .frames) some _ _ (c .frame-at .ensures), prefix-within _ _ _ _ (at .loop .inv .1))))
+    (ready .some, (ready .linked, (ready .zero, (frame-around _ _ (ready .frames) some _ _ (c .frame-at .ensures), prefix-within _ _ _ _ (at .loop .inv .1)))))
 
 loop-again : tie.Need-loop-again Inv-loop μ-loop
 loop-again c =
@@ -35,7 +36,7 @@ loop-again c =
     let at = read .before .before in
     let args = start at .args in
     let grown = rw (read .frame-at .ensures) at (c .prefix-on .ensures) in
-    rw add-one (omega arith, prefix-on (args .held .now) _ (args .frames .now) (at .loop .x) _ _ (at .loop .inv .1) grown)
+    rw add-one (omega arith, prefix-on (behind (args .bytes .now)) _ (args .frames .now) (at .loop .x) _ _ (at .loop .inv .1) grown)
 
 returns : tie.Need-returns Inv-loop μ-loop
 returns c =

@@ -10,13 +10,13 @@ use Rattle.restore_prefixes.proofs.Walk.{prefix-within}
 use Rattle.restore_conversions.proofs.Walked.{frame-around, walked-on, wrong-fails, walked-all}
 use Rattle.restore_conversions.proofs.rest_matches.Statement.{statement}
 use Rattle.restore_conversions.proofs.rest_matches.Tie as tie
-use Rattle.restore_conversions.specs.Walk.{Walked}
+use Rattle.restore_conversions.specs.Walk.{behind, Walked}
 
 abbrev Inv-loop : tie.InvT-loop
-Inv-loop hold hold-offset pattern links held frames start prefix last n longest₀ b₀ longest b = Walked hold hold-offset pattern held frames b longest
+Inv-loop hold hold-offset pattern links bytes frames start prefix last n longest₀ b₀ longest b = Walked hold hold-offset pattern (behind bytes) frames b longest
 
 abbrev μ-loop : tie.MeasureT-loop
-μ-loop hold hold-offset pattern links held frames start prefix last n longest₀ b₀ longest b = length frames - b
+μ-loop hold hold-offset pattern links bytes frames start prefix last n longest₀ b₀ longest b = length frames - b
 
 -- the places of the code: the loop and the function's entry, and where both frames of a turn have been read
 abbrev start : tie.At-loop Inv-loop μ-loop → tie.Start Inv-loop μ-loop
@@ -29,7 +29,7 @@ prefix-on-requires : tie.Need-prefix-on-requires Inv-loop μ-loop
 prefix-on-requires c κs =
     let (ready, (some, rest)) = start (at c) .pre in
     let low = frame-around _ _ (ready .frames) some _ _ (c .frame-at2 .ensures) in
-    (ready .some, (ready .linked, (low, prefix-within _ _ _ _ (at c .loop .inv .here))))
+    (ready .some, (ready .linked, (ready .zero, (low, prefix-within _ _ _ _ (at c .loop .inv .here)))))
 
 returns : tie.Need-returns Inv-loop μ-loop
 returns c =

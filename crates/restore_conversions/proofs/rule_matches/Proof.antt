@@ -16,5 +16,5 @@ rule-matches-spec =
     (λ c. search needs)
     (λ c κs.
     let pre = c .before .before .before .before .before .before .pre in
-    (record { some = omega (arith, pre .0); linked = c .before .links .ensures .1; frames = pre .1 .1 }, (omega arith, pre .0)))
+    (record { zero = pre .1 .1 .0; some = omega (arith, pre .0); linked = c .before .links .ensures .1; frames = pre .1 .1 .1 }, (omega arith, pre .0)))
     (λ c. search needs))
