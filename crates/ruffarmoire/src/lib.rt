@@ -6,18 +6,25 @@ use job::ReadAnswer;
 use job::WriteAnswer;
 use price::PriceAnswer;
 use report_lines::ReportAnswer;
+use rules_answers::RulesAnswer;
 use turn::TurnAnswer;
 ghost use mathlib.Core.Path.{_≡_};
 ghost use Rattle.answers.specs.Contracts.{before, after};
 ghost use Rattle.convert.specs.Convert.{Convert-outcome};
+ghost use Rattle.convert_rules.specs.ConvertRules.{Convert-rules-outcome};
+ghost use Rattle.edit_rule.specs.Edit.{Edit-outcome};
 ghost use Rattle.explain.specs.Explain.{Explain-outcome};
+ghost use Rattle.explain_rule.specs.ExplainRule.{Explain-rule-outcome};
 ghost use Rattle.job.specs.Read.{Read-outcome};
 ghost use Rattle.job.specs.Write.{Write-outcome};
 ghost use Rattle.search.specs.Search.{Search-outcome};
 ghost use Rattle.ones.specs.Ones.{count-answer};
 ghost use Rattle.price.specs.Price.{Price-outcome};
+ghost use Rattle.price_rules.specs.PriceRules.{Price-rules-outcome};
 ghost use Rattle.report.specs.Report.{Report-outcome};
 ghost use Rattle.restore.specs.Restore.{Restore-outcome};
+ghost use Rattle.restore_rules.specs.RestoreRules.{Restore-rules-outcome};
+ghost use Rattle.search_rules.specs.SearchRules.{Search-rules-outcome};
 ghost use Rattle.tables.specs.Buffers.{lent, left};
 ghost use Rattle.tables.specs.Prepare.{Prepare-outcome};
 ghost use Rattle.turn.specs.Turn.{Turn-outcome};
@@ -195,6 +202,102 @@ pub extern "C" fn explain(
         (lent order delta2 delta1 delta3) (left order delta2 delta1 delta3) r ⌝ }
 {
     explain::explain(position, pattern, text, order, delta2, delta1, delta3)
+}
+
+// Searches for every rule of a table, and answers rule by rule.
+#[no_mangle]
+pub extern "C" fn search_rules(
+    rules: &[u8; 2081],
+    text: &[u8],
+    order: &mut [i16],
+    delta2: &mut [u16],
+    delta1: &mut [u16],
+    delta3: &mut [u16],
+    found: &mut [u16],
+) -> RulesAnswer
+    ensures { λ r. ⌜ Search-rules-outcome (before rules) (before text)
+        (lent order delta2 delta1 delta3) (left order delta2 delta1 delta3)
+        (before found) (after found) r ⌝ }
+{
+    search_rules::search_rules(rules, text, order, delta2, delta1, delta3, found)
+}
+
+// Converts a text (chain) to frames by a table of rules.
+#[no_mangle]
+pub extern "C" fn convert_rules(
+    rules: &[u8; 2081],
+    text: &[u8],
+    order: &mut [i16],
+    delta2: &mut [u16],
+    delta1: &mut [u16],
+    delta3: &mut [u16],
+    found: &mut [u16],
+    frames: &mut [u16],
+) -> RulesAnswer
+    ensures { λ r. ⌜ Convert-rules-outcome (before rules) (before text)
+        (lent order delta2 delta1 delta3) (left order delta2 delta1 delta3)
+        (before found) (after found) (before frames) (after frames) r ⌝ }
+{
+    convert_rules::convert_rules(rules, text, order, delta2, delta1, delta3, found, frames)
+}
+
+// Prices a text (chain) that is converted by a table of rules.
+#[no_mangle]
+pub extern "C" fn price_rules(
+    rules: &[u8; 2081],
+    text: &[u8],
+    order: &mut [i16],
+    delta2: &mut [u16],
+    delta1: &mut [u16],
+    delta3: &mut [u16],
+    found: &mut [u16],
+) -> PriceAnswer
+    ensures { λ r. ⌜ Price-rules-outcome (before rules) (before text)
+        (lent order delta2 delta1 delta3) (left order delta2 delta1 delta3)
+        (before found) (after found) r ⌝ }
+{
+    price_rules::price_rules(rules, text, order, delta2, delta1, delta3, found)
+}
+
+// Puts the frames of a conversion by a table of rules back to the text (chain).
+#[no_mangle]
+pub extern "C" fn restore_rules(rules: &[u8; 2081], frames: &[u16], text: &mut [u8]) -> Answer
+    ensures { λ r. ⌜ Restore-rules-outcome (before rules) (before frames) (before text)
+        (after text) r ⌝ }
+{
+    restore_rules::restore_rules(rules, frames, text)
+}
+
+// Explains why a position of the text (place of the chain) has no hold of one rule.
+#[no_mangle]
+pub extern "C" fn explain_rule(
+    number: u32,
+    position: u32,
+    rules: &[u8; 2081],
+    text: &[u8],
+    order: &mut [i16],
+    delta2: &mut [u16],
+    delta1: &mut [u16],
+    delta3: &mut [u16],
+) -> ExplainAnswer
+    ensures { λ r. ⌜ Explain-rule-outcome number position (before rules) (before text)
+        (lent order delta2 delta1 delta3) (left order delta2 delta1 delta3) r ⌝ }
+{
+    explain_rule::explain_rule(number, position, rules, text, order, delta2, delta1, delta3)
+}
+
+// Puts a new pattern (motif) and hold offset (hold place) in one rule of a table.
+#[no_mangle]
+pub extern "C" fn edit_rule(
+    number: u32,
+    hold_offset: u32,
+    pattern: &[u8],
+    rules: &mut [u8; 2081],
+) -> Answer
+    ensures { λ r. ⌜ Edit-outcome number «hold_offset» (before pattern) (before rules)
+        (after rules) r ⌝ }
+{
+    edit_rule::edit_rule(number, hold_offset, pattern, rules)
 }
 
 // Writes what SEEK prints for the job of a file. It keeps the job, its tables and its buffers on

@@ -1,15 +1,15 @@
 -- The worked examples hold of the definitions, and the wrong claims beside them do not.
 -- Each claim is computed; the longest jobs go by the laws of written files and of equal bytes.
-use mathlib.Core.Bool.{false, and-false, true≢false}
+use mathlib.Core.Bool.{Bool, true, false, _&&_, and-false, true≢false, and-eq-true-iff}
 use mathlib.Core.List.{List, [], _∷_}
 use mathlib.Core.Path.{_≡_, refl, _∙_, ap}
 use Prim.Native.Nat.{ℕ, zero, suc, _+_, _*_, _%_, _≤_, _<_}
 use native.Mathlib.Nat.{mod-lt, suc-mul}
 use native.Mathlib.Omega.{arith}
-use borrow.Author.Tests.{eqb-false}
+use borrow.Author.Tests.{ltb-true, eqb-false}
 use lib.Count.{ones}
-use lib.Dec.{leb, eqb}
-use lib.ListN.{length, replicate, length-replicate, getD-replicate}
+use lib.Dec.{ltb, leb, eqb}
+use lib.ListN.{length, replicate, length-replicate, getD, getD-replicate}
 use Rattle.answers.proofs.Bytes.{each-byte}
 use Rattle.answers.specs.Answers.{counted, if-done, answered}
 use Rattle.answers.specs.Buffers.{from-entry, in-front}
@@ -53,6 +53,24 @@ use Rattle.price.specs.Price.{job-cost, price-status, price-answer}
 use Rattle.explain_answers.specs.Answer.{explained}
 use Rattle.explain_meaning.specs.Explanation.{kind-by, spoils, first-spoilt, where-laid, explained-by, explanation}
 use Rattle.explain.specs.Explain.{explain-status, explain-answer}
+use Rattle.rules.specs.Buffers.{one-after-another, sum-over, all-tables-left}
+use Rattle.rules.specs.Rules.{held, rule-of, rules-from, rules-of, slot-refusals, table-refusals, named-refusals}
+use Rattle.edit_rule.specs.Edit.{edit-refusals, edit-status, edited}
+use Rattle.rules_claims.specs.Claims.{claims, claimants, claimed-twice}
+use Rattle.rules_meet.specs.Meeting.{agree-at, can-meet}
+use Rattle.rules_status.specs.Measured.{search-refusals}
+use Rattle.rules_answers.specs.Answers.{nothing-told, no-answers, all-told, rules-answered}
+use Rattle.search_rules.specs.SearchRules.{search-rules-status, all-found-left}
+use Rattle.rules_frames.specs.RuleFrames.{marked, rule-frames}
+use Rattle.convert_rules.specs.ConvertRules.{convert-rules-status, rule-frames-left}
+use Rattle.convert_rules.specs.Paired.{by-search as rules-by-search, by-convert as rules-by-convert}
+use Rattle.price_rules.specs.PriceRules.{price-rules-answer}
+use Rattle.rules_conversions.specs.Conversions.{restored as restored-by-rules}
+use Rattle.rules_conversions.specs.Conversions.{converts-again as converts-again-by-rules}
+use Rattle.rules_conversions.specs.Conversions.{is-conversion as is-conversion-by-rules}
+use Rattle.restore_rules.specs.RestoreRules.{measured, restore-rules-status, restored-left as restored-by-rules-left}
+use Rattle.explain_rule.specs.ExplainRule.{explain-rule-status}
+use Rattle.rules_turn_laws.specs.Promises.{turned-rule, turned-rules}
 use Rattle.report_lines.specs.Printed.{report-status, report-answer, refused-report}
 use Rattle.report.specs.Report.{done-report, seek-report}
 use Rattle.worked_examples.specs.Examples.{a, b, left-by-ac, bytes, shorthand-k-min, shorthand, Holds, examples, All, All-hold}
@@ -105,6 +123,24 @@ unequal {x} {y} = eqb-false x y
 apart : {A : Type 0} {x y : A} (f : A → ℕ) → eqb (f x) (f y) ≡ false → x ≡ y → ⊥
 apart f d e = unequal d (ap f e)
 
+-- bytes, by a test of each
+all-bytes : List ℕ → Bool
+all-bytes [] = true
+all-bytes (c ∷ t) = ltb c 256 && all-bytes t
+
+tested-bytes : (t : List ℕ) → all-bytes t ≡ true → Bytes t
+unfolding Bytes all-bytes
+tested-bytes [] e = tt
+tested-bytes (c ∷ t) e =
+    let (small, rest) = and-eq-true-iff (ltb c 256) (all-bytes t) .0 e in
+    (ltb-true c 256 small, tested-bytes t rest)
+
+-- what is so of 0 and of 1 is so of each number below 2
+below-2 : (f g : ℕ → ℕ) → f 0 ≡ g 0 → f 1 ≡ g 1 → (i : ℕ) → i < 2 → f i ≡ g i
+below-2 f g first second zero l = first
+below-2 f g first second (suc zero) l = second
+below-2 f g first second (suc (suc i)) l = absurd (omega (arith, l))
+
 pub examples-hold : All-hold examples
 unfolding bytes Holds examples All All-hold shorthand-k-min shorthand Same-at
     if-done answered count-answer first-of job-refusals is-digit digit-value digit digits all-digits number
@@ -115,11 +151,18 @@ unfolding bytes Holds examples All All-hold shorthand-k-min shorthand Same-at
     agreeing row shifts step alignments-from alignments compared is-occurrence repeat-after comparisons-of listed comparisons
     holds with-holds frames ones ones-of word-of line done-report seek-report
     reversed-bits mirrored turned-by turned turned-index turn-status turn-answer turned-left from-entry in-front
-    back is-in passing ascending rotated rotated-positions
+    back passing ascending rotated rotated-positions
     is-frame names-rule restored-byte all-restored rule-right restored converts-again is-conversion restore-status restored-left
     byte-price sum-from total rebate cost price-status price-answer tables-left stored-Δ1 found-left
     frames-left read-answer write-answer report-answer
     kind-by spoils first-spoilt where-laid explained-by explanation explain-status explain-answer
+    one-after-another sum-over all-tables-left rules-from rules-of
+    slot-refusals table-refusals named-refusals edit-refusals edit-status edited
+    held is-in claims claimants claimed-twice agree-at can-meet
+    no-answers all-told rules-answered search-refusals search-rules-status all-found-left
+    marked rule-frames convert-rules-status rule-frames-left price-rules-answer
+    restored-by-rules converts-again-by-rules is-conversion-by-rules measured restore-rules-status
+    restored-by-rules-left explain-rule-status turned-rule turned-rules all-bytes
 examples-hold =
     (refl, (refl, (refl, tt)))
     then (refl, (refl, (refl, tt)))
@@ -184,4 +227,27 @@ examples-hold =
     then (λ o. apart (λ l. byte l 0) refl (o .out-left)) then (λ o. apart (λ x. byte (x .delta2) 0) refl (o .tables))
     then (λ o. unequal refl (o .4 .found)) then (λ o. unequal refl (o .3)) then (λ o. unequal refl (o .3 .1 .0))
     then (λ o. unequal refl (o .3 .1 .0)) then (λ o. unequal refl (o .4)) then tt)
+    then (refl, (refl, (refl, (refl, (refl, (refl, (refl, (refl, (refl, (refl, (refl, (refl, (refl, (refl, (refl, (refl, (refl, (refl, (refl, (refl, tt))))))))))))))))))))
+    then (refl, (refl, (refl, (refl, (refl, (refl, (refl, (refl, (refl, (refl, (refl, (refl, (refl, (refl, (refl, (refl, (refl, (refl, (refl, (refl, (refl, (record { answer = refl; table-left = refl }, (record { answer = refl; table-left = refl }, (record { answer = refl; table-left = refl }, (record { answer = refl; table-left = refl }, (record { answer = refl; table-left = refl }, tt))))))))))))))))))))))))))
+    then (refl, (refl, (refl, (refl, (refl, (refl, (refl, (refl, (refl, (refl, (refl, (refl, (refl, (refl, (refl, (refl, (refl, (refl, (refl, (refl, (refl, (refl, tt))))))))))))))))))))))
+    then (refl, (refl, (refl, (refl, (refl, (refl, (refl, (refl, (refl, (refl, (refl, (refl, (refl, (refl, (refl, (refl, (refl, (refl, (refl, (refl, (refl, (refl, tt))))))))))))))))))))))
+    then (refl, (refl, (refl, (refl, (refl, (refl, (refl, (refl, (refl, (refl, (refl, (refl, (refl, (refl, (refl, (refl, (refl, (refl, (refl, (refl, (refl, (refl, (refl, tt)))))))))))))))))))))))
+    then (record { answer = refl; tables = refl; occurrences-left = refl }, (record { answer = refl; tables = refl; occurrences-left = refl }, (record { answer = refl; tables = refl; occurrences-left = refl }, (record { answer = refl; tables = refl; occurrences-left = refl }, (record { answer = refl; tables = refl; occurrences-left = refl; moves-and-holds-left = refl }, (record { answer = refl; tables = refl; occurrences-left = refl; moves-and-holds-left = refl }, (record { answer = refl; tables = refl; occurrences-left = refl; moves-and-holds-left = refl }, (record { answer = refl; tables = refl; occurrences-left = refl; moves-and-holds-left = refl }, (record { answer = refl; tables = refl; occurrences-left = refl; moves-and-holds-left = refl }, (record { answer = refl; tables = refl; occurrences-left = refl }, (record { answer = refl; tables = refl; occurrences-left = refl }, (record { answer = refl; tables = refl; occurrences-left = refl }, (record { answer = refl; tables = refl; occurrences-left = refl }, tt)))))))))))))
+    then (refl, (refl, (refl, (refl, (refl, (refl, (refl, (refl, (refl, (refl, (refl, (refl, (refl, (refl, (refl, (refl, (refl, (refl, (refl, (refl, (refl, (refl, (refl, (refl, (refl, (refl, (record { answer = refl; text-left = refl }, (record { answer = refl; text-left = refl }, (record { answer = refl; text-left = refl }, tt)))))))))))))))))))))))))))))
+    then (refl, (refl, (refl, (refl, (refl, (refl, (refl, (refl, (refl, (refl, (refl, (record { answer = refl; tables = refl }, (record { answer = refl; tables = refl }, (record { answer = refl; tables = refl }, (record { answer = refl; tables = refl }, tt)))))))))))))))
+    then (refl, (refl, (refl, (refl, (refl, ((refl, omega arith, rules-by-search (record { answer = refl; tables = refl; occurrences-left = refl }), refl, rules-by-search (record { answer = refl; tables = refl; occurrences-left = refl }), refl, record { tables = refl; found = refl; frames = refl }), ((refl, omega arith, rules-by-search (record { answer = refl; tables = refl; occurrences-left = refl }), refl, rules-by-search (record { answer = refl; tables = refl; occurrences-left = refl }), refl, refl, (refl, (refl, (refl, tt)))), ((refl, omega arith, rules-by-convert (record { answer = refl; tables = refl; occurrences-left = refl; moves-and-holds-left = refl }), refl, rules-by-convert (record { answer = refl; tables = refl; occurrences-left = refl; moves-and-holds-left = refl }), refl, refl, (refl, (refl, (refl, tt)))), ((record { size = refl; size' = refl; bytes = tested-bytes _ refl; rules = refl; lengths = below-2 _ _ refl refl }, tested-bytes _ refl, rules-by-convert (record { answer = refl; tables = refl; occurrences-left = refl; moves-and-holds-left = refl }), refl, rules-by-convert (record { answer = refl; tables = refl; occurrences-left = refl; moves-and-holds-left = refl }), refl), (record { size = refl; one = refl; rule = refl }, (record { tables = refl; found = omega arith; frames = omega arith }, (record { allowed = record { answer = refl; tables = refl; occurrences-left = refl }; taken = refl }, tt))))))))))))
+    then (unequal refl then apart length refl then unequal refl then unequal refl then (λ o. apart (λ l. byte l 3) refl (o .table-left))
+    then apart (λ l. byte l 0) refl then apart (λ l. byte l 0) refl then apart (λ l. getD l 0 nothing-told .unmatched) refl
+    then apart (λ r. r .order) refl then unequal refl then true≢false then true≢false then unequal refl then unequal refl
+    then (λ o. apart (λ r. getD (r .rules) 1 nothing-told .unmatched) refl (o .answer))
+    then (λ o. apart (λ l. byte l 0) refl (o .moves-and-holds-left)) then (λ o. apart (λ r. r .pence) refl (o .answer))
+    then apart (λ l. byte l 0) refl then unequal refl then (λ o. apart (λ l. byte l 0) refl (o .text-left)) then unequal refl
+    then (λ o. apart (λ r. r .answer .status) refl (o .answer)) then apart (λ rs. rule-of rs 0 .hold-offset) refl
+    then (λ o. unequal refl (o .5)) then (λ o. unequal refl (o .7 .0)) then (λ o. apart (λ rs. rule-of rs 0 .hold-offset) refl (o .0 .rules))
+    then (λ o. apart (λ r. r .status) refl (o .answer)) then (λ o. apart (λ l. byte l 0) refl (o .occurrences-left))
+    then (λ o. apart (λ x. byte (x .delta2) 0) refl (o .tables))
+    then (λ o. apart (λ x. byte (x .delta2) 0) refl (o .tables)) then (λ o. apart (λ r. r .status) refl (o .answer))
+    then (λ o. apart (λ x. byte (x .delta2) 0) refl (o .tables))
+    then (λ o. unequal refl (o .one)) then (λ o. true≢false (o .tables))
+    then (λ o. apart (λ r. r .pence) refl (o .allowed .answer)) then tt)
     then tt

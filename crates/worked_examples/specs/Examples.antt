@@ -4,12 +4,14 @@ use mathlib.Core.Bool.{Bool, true, false, _&&_, cond}
 use mathlib.Core.List.{List, [], _∷_, _++_, map}
 use mathlib.Core.Path.{_≡_}
 use Prim.Native.Char.{code}
-use Prim.Native.Nat.{ℕ, suc, _+_, _-_, _<_}
+use Prim.Native.Nat.{ℕ, suc, _+_, _-_, _*_, _≤_, _<_}
 use Prim.Native.String.{String, [] as end, _∷_ as _then_}
 use lib.Dec.{leb, eqb}
 use lib.IntN.{ℤ, pos, negsuc}
 use lib.ListN.{length, drop, replicate}
 use Rattle.answers.specs.Answers.{answered}
+use Rattle.answers.specs.Bytes.{Bytes}
+use Rattle.answers.specs.Refusals.{first-of}
 use Rattle.answers.specs.declared.Answer.{Answer}
 use Rattle.job.specs.Job.{job-file, file-status}
 use Rattle.job.specs.Read.{read-status, Read-outcome}
@@ -51,11 +53,33 @@ use Rattle.explain_answers.specs.declared.ShiftKind.the-variants.{LastByte, Ord
 use Rattle.explain_meaning.specs.Explanation.{explanation-in}
 use Rattle.explain.specs.Explain.{explain-status, Explain-outcome}
 use Rattle.explain_laws.specs.Calls.{Explains}
+use Rattle.rules.specs.Buffers.{one-after-another, all-needed}
+use Rattle.rules.specs.Rules.{Rule, rules-of, count-of, table-refusals, named-refusals, most-rules, table-size}
+use Rattle.edit_rule.specs.Edit.{edit-status, Edit-outcome}
+use Rattle.rules_claims.specs.Claims.{rule, found-of, claimed-twice}
+use Rattle.rules_meet.specs.Meeting.{can-meet}
+use Rattle.rules_answers.specs.Answers.{nothing-told, no-answers, all-told}
+use Rattle.rules_answers.specs.declared.RuleAnswer.{RuleAnswer}
+use Rattle.rules_answers.specs.declared.RulesAnswer.{RulesAnswer}
+use Rattle.search_rules.specs.SearchRules.{search-rules-status, Search-rules-outcome}
+use Rattle.rules_frames.specs.RuleFrames.{rule-frames}
+use Rattle.convert_rules.specs.ConvertRules.{convert-rules-status, Convert-rules-outcome}
+use Rattle.convert_rules.specs.Paired.{Rules-call, Rules-taken, Any-rules-search, Rules-lent-as-long}
+use Rattle.price_rules.specs.PriceRules.{rules-cost, Price-rules-outcome}
+use Rattle.rules_conversions.specs.Conversions.{restored as restored-by-rules}
+use Rattle.restore_rules.specs.RestoreRules.{restore-rules-status, Restore-rules-outcome}
+use Rattle.explain_rule.specs.ExplainRule.{numbered-pattern, explain-rule-status, Explain-rule-outcome}
+use Rattle.price_rules.specs.Promises.{Rules-priced}
+use Rattle.rules_one_laws.specs.Calls.{One-rule}
+use Rattle.rules_restore_laws.specs.Calls.{Rules-room-for}
+use Rattle.rules_turn_laws.specs.Calls.{Table-turned}
+use Rattle.rules_turn_laws.specs.Promises.{turned-rules}
 use Rattle.report_lines.specs.Printed.{report-status}
 use Rattle.report_lines.specs.declared.ReportAnswer.{ReportAnswer}
 use Rattle.report.specs.Report.{seek-report, Report-outcome}
 
--- what a row may claim of a pattern w (motif), a text t (chain) or a job file
+-- what a row may claim of a pattern w (motif), a text t (chain), a job file, a list of rules or the
+-- image of a rule table
 pub data Claim : Type 0 where
   period-is : (w : List ℕ) → (p : ℕ) → Claim
   order-is : (w : List ℕ) → (entries : List ℤ) → Claim
@@ -116,6 +140,41 @@ pub data Claim : Type 0 where
   shift-loses : (w t : List ℕ) → (b i k lost : ℕ) → Claim
   both-explained : (position : ℕ) → (w t u : List ℕ) → (first other : ExplainAnswer) → Claim
   both-priced : (q : ℕ) → (w t u : List ℕ) → (first other : Price-call) → Claim
+  rules-give : (image : List ℕ) → (status : ℕ) → Claim
+  rules-are : (image : List ℕ) → (rules : List Rule) → Claim
+  naming-gives : (image : List ℕ) → (number : ℕ) → (status : ℕ) → Claim
+  editing-gives : (image : List ℕ) → (number m q : ℕ) → (status : ℕ) → Claim
+  editing-leaves : (number q : ℕ) → (w image edited : List ℕ) → (given : Answer) → Claim
+  rule-frames-are : (rules : List Rule) → (t frames : List ℕ) → Claim
+  rules-found-are : (rules : List Rule) → (t positions : List ℕ) → Claim
+  rules-told-are : (rules : List Rule) → (t : List ℕ) → (entries : List RuleAnswer) → Claim
+  rules-needed-are : (rules : List Rule) → (lengths : TableLengths) → Claim
+  rules-cost-is : (rules : List Rule) → (t : List ℕ) → (pence : ℕ) → Claim
+  can-meet-is : (first second : Rule) → (meet : Bool) → Claim
+  claimed-twice-is : (rules : List Rule) → (t : List ℕ) → (twice : Bool) → Claim
+  searching-rules-gives : (image t : List ℕ) → (lengths : TableLengths) → (found-len : ℕ) → (status : ℕ) → Claim
+  converting-rules-gives :
+      (image t : List ℕ) → (lengths : TableLengths) → (found-len frames-len : ℕ) → (status : ℕ) → Claim
+  searching-rules-leaves :
+      (image t : List ℕ) → (lent left : Tables) → (found listed : List ℕ) → (given : RulesAnswer) → Claim
+  converting-rules-leaves :
+      (image t : List ℕ) → (lent left : Tables) → (found listed frame framed : List ℕ) → (given : RulesAnswer) →
+      Claim
+  pricing-rules-leaves :
+      (image t : List ℕ) → (lent left : Tables) → (found listed : List ℕ) → (given : PriceAnswer) → Claim
+  restored-by-rules-are : (rules : List Rule) → (frames bytes : List ℕ) → Claim
+  restoring-by-rules-gives : (image frames : List ℕ) → (text-len : ℕ) → (status : ℕ) → Claim
+  restoring-by-rules-leaves : (image frames text left : List ℕ) → (given : Answer) → Claim
+  explaining-rule-gives : (image : List ℕ) → (number n position : ℕ) → (lengths : TableLengths) → (status : ℕ) → Claim
+  explaining-rule-leaves :
+      (number position : ℕ) → (image t : List ℕ) → (lent left : Tables) → (given : ExplainAnswer) → Claim
+  turned-rules-are : (way : ℕ) → (rules turned-alike : List Rule) → Claim
+  both-searched-by-rules : (r : ℕ) → (image t : List ℕ) → (first later : Rules-call) → Claim
+  both-paired-by-rule : (number : ℕ) → (image t u : List ℕ) → (first other : Rules-call) → Claim
+  both-turned-by-rules : (way : ℕ) → (image turned-image t : List ℕ) → (first other : Rules-call) → Claim
+  one-rule-is : (image w : List ℕ) → (q : ℕ) → Claim
+  room-for-rules : (rules : List Rule) → (n : ℕ) → (lent : Buffers) → Claim
+  priced-by-rules : (image t : List ℕ) → (call : Price-call) → Claim
   refuted : (wrong : Claim) → Claim
 
 -- the bytes of what is written in quotes: each character's code
@@ -214,6 +273,43 @@ Holds (shift-loses w t b i k lost) = (explanation-in b w t ≡ Tried i) × (expl
 Holds (both-explained position w t u first other) =
     Explains position w t first × Explains position w u other × (length u ≡ length t) × Alike w t u
 Holds (both-priced q w t u first other) = Priced q w t first × Priced q w u other × (length u ≡ length t) × Alike w t u
+Holds (rules-give x status) = first-of (table-refusals x) ≡ status
+Holds (rules-are x rs) = rules-of x ≡ rs
+Holds (naming-gives x number status) = first-of (named-refusals x number) ≡ status
+Holds (editing-gives x number m q status) = edit-status x number m q ≡ status
+Holds (editing-leaves number q w x x' given) = Edit-outcome number q w x x' given
+Holds (rule-frames-are rs t these) = rule-frames rs t ≡ these
+Holds (rules-found-are rs t positions) = one-after-another (found-of t) rs ≡ positions
+Holds (rules-told-are rs t entries) = all-told rs t ≡ entries
+Holds (rules-needed-are rs l) = all-needed rs ≡ l
+Holds (rules-cost-is rs t pence) = rules-cost rs t ≡ pence
+Holds (can-meet-is r s meet) = can-meet r s ≡ meet
+Holds (claimed-twice-is rs t twice) = claimed-twice rs t ≡ twice
+Holds (searching-rules-gives x t l found status) = search-rules-status x t l found ≡ status
+Holds (converting-rules-gives x t l found frames status) = convert-rules-status x t l found frames ≡ status
+Holds (searching-rules-leaves x t lent left found listed given) = Search-rules-outcome x t lent left found listed given
+Holds (converting-rules-leaves x t lent left found listed frame framed given) =
+    Convert-rules-outcome x t lent left found listed frame framed given
+Holds (pricing-rules-leaves x t lent left found listed given) = Price-rules-outcome x t lent left found listed given
+Holds (restored-by-rules-are rs these bytes) = restored-by-rules rs these ≡ bytes
+Holds (restoring-by-rules-gives x these text status) = restore-rules-status x these text ≡ status
+Holds (restoring-by-rules-leaves x these text left given) = Restore-rules-outcome x these text left given
+Holds (explaining-rule-gives x number n position l status) = explain-rule-status x number n position l ≡ status
+Holds (explaining-rule-leaves number position x t lent left given) =
+    Explain-rule-outcome number position x t lent left given
+Holds (turned-rules-are way rs turned-alike) = turned-rules way rs ≡ turned-alike
+Holds (both-searched-by-rules r x t first later) =
+    (length x ≡ table-size) × (r ≤ length t) × Any-rules-search x t first × Rules-taken first
+    × Any-rules-search x (rotated r t) later × Rules-taken later × Rules-lent-as-long first later
+Holds (both-paired-by-rule number x t u first other) =
+    (length x ≡ table-size) × (number - 1 < count-of x) × Any-rules-search x t first × Rules-taken first
+    × Any-rules-search x u other × Rules-taken other × (length u ≡ length t) × Alike (numbered-pattern x number) t u
+Holds (both-turned-by-rules way x x' t first other) =
+    Table-turned way x x' × Bytes t × Any-rules-search x t first × Rules-taken first
+    × Any-rules-search x' (turned way t) other × Rules-taken other
+Holds (one-rule-is x w q) = One-rule x w q
+Holds (room-for-rules rs n b) = Rules-room-for rs n b
+Holds (priced-by-rules x t c) = Rules-priced x t c
 Holds (refuted wrong) = Holds wrong → ⊥
 
 -- a row: its number, up to 10 that of document 01, and what it claims
@@ -364,6 +460,96 @@ listing-file = "0105020009\n06\n06\n18\n06\n06\n06\n06\n18\n06\n06\n06\n18\n06\n
 
 abbrev listing-printed : String
 listing-printed = "0002\n0000000D\n00000012\n0003\n00000015\n0000\n0004\n0006\n0006\n0100\n0006\n0006\n0006\n0100\n0006\n0006\n"
+
+-- a rule's slot: length, hold offset, pattern, and zeros up to 128 bytes
+abbrev slot-of : Rule → List ℕ
+slot-of r = length (r .pattern) ∷ r .hold-offset ∷ r .pattern ++ replicate (128 - length (r .pattern)) 0
+
+-- the image of a table, with zeros in the slots past the last rule
+abbrev table : List Rule → List ℕ
+table rs = length rs ∷ one-after-another slot-of rs ++ replicate (130 * (most-rules - length rs)) 0
+
+-- what is told of a rule, and of a table: these entries, and zeros past them
+abbrev told : (h C p bound unmatched : ℕ) → RuleAnswer
+told h C p most none = record { occurrences = h; comparisons = C; period = p; bound = most; unmatched = none }
+
+abbrev and-nothing : List RuleAnswer → List RuleAnswer
+and-nothing entries = entries ++ replicate (most-rules - length entries) nothing-told
+
+abbrev rules-answer : (ones : ℕ) → List RuleAnswer → RulesAnswer
+rules-answer o entries = record { status = 0; ones = o; rules = and-nothing entries }
+
+-- zeros beside a number
+abbrev rules-refused : (status : ℕ) → RulesAnswer
+rules-refused s = record { status = s; ones = 0; rules = no-answers }
+
+-- a whole call with a table
+abbrev rules-call : (before after : Buffers) → (given : RulesAnswer) → Rules-call
+rules-call x x' r = record { lent = x; left = x'; answer = r }
+
+-- two rules of one byte, for a and for c, and one rule twice
+abbrev a-and-c : List Rule
+a-and-c = rule (a ∷ []) 0 ∷ rule (c ∷ []) 0 ∷ []
+
+abbrev a-twice : List Rule
+a-twice = rule (a ∷ []) 0 ∷ rule (a ∷ []) 0 ∷ []
+
+-- buffers for the tables of two patterns of one byte, and one entry more in each: before a call,
+-- and with these tables
+abbrev lent-to-two : Tables
+lent-to-two = lent (room 5 5 513 3)
+
+abbrev left-by-two : Tables
+left-by-two =
+    tables (pos 0 ∷ negsuc 0 ∷ pos 0 ∷ negsuc 0 ∷ pos 9 ∷ []) (0 ∷ 1 ∷ 0 ∷ 1 ∷ 9 ∷ []) (replicate 512 1 ++ (9 ∷ []))
+    (0 ∷ 0 ∷ 9 ∷ [])
+
+-- 16 rules, that of number k with the byte k alone
+abbrev sixteen : List Rule
+sixteen = map (λ k. rule (k ∷ []) 0) (1 ∷ 2 ∷ 3 ∷ 4 ∷ 5 ∷ 6 ∷ 7 ∷ 8 ∷ 9 ∷ 10 ∷ 11 ∷ 12 ∷ 13 ∷ 14 ∷ 15 ∷ 16 ∷ [])
+
+-- three rules for the listing: the second is not in it
+abbrev three-rules : List Rule
+three-rules = rule aacaa 2 ∷ rule (b ∷ []) 0 ∷ rule (a ∷ c ∷ []) 0 ∷ []
+
+-- the rules of README's example, with this third one
+abbrev third : (w : List ℕ) → (q : ℕ) → List Rule
+third w q = rule aacaa 2 ∷ rule (a ∷ a ∷ a ∷ []) 1 ∷ rule w q ∷ []
+
+-- two rules, for a c and for b, and their tables
+abbrev ac-and-b : List Rule
+ac-and-b = rule (a ∷ c ∷ []) 1 ∷ rule (b ∷ []) 0 ∷ []
+
+abbrev left-by-ac-and-b : Tables
+left-by-ac-and-b =
+    tables (pos 1 ∷ pos 0 ∷ negsuc 0 ∷ pos 0 ∷ negsuc 0 ∷ []) (0 ∷ 2 ∷ 2 ∷ 0 ∷ 1 ∷ [])
+    (replicate 12 2 ++ (1 ∷ 1 ∷ []) ++ replicate 498 2 ++ replicate 256 1) (0 ∷ 0 ∷ 0 ∷ [])
+
+-- a search of a a c with them
+abbrev searched-by-ac-and-b : Rules-call
+searched-by-ac-and-b =
+    rules-call (buffers (lent (room 5 5 768 3)) (replicate 3 9) []) (buffers left-by-ac-and-b (1 ∷ 9 ∷ 9 ∷ []) [])
+    (rules-answer 0 (told 1 3 2 6 0 ∷ told 0 3 1 5 1 ∷ []))
+
+-- these rules turned in way 3, and their tables
+abbrev ac-and-b-turned : List Rule
+ac-and-b-turned = rule (0x18 ∷ 0x60 ∷ []) 0 ∷ rule (0x80 ∷ []) 0 ∷ []
+
+abbrev left-by-ac-and-b-turned : Tables
+left-by-ac-and-b-turned =
+    tables (pos 1 ∷ pos 0 ∷ negsuc 0 ∷ pos 0 ∷ negsuc 0 ∷ []) (0 ∷ 2 ∷ 2 ∷ 0 ∷ 1 ∷ [])
+    (replicate 48 2 ++ (1 ∷ 1 ∷ []) ++ replicate 462 2 ++ replicate 256 1) (0 ∷ 0 ∷ 0 ∷ [])
+
+-- a price of a a c by these rules
+abbrev priced-by-ac-and-b : (pence : ℕ) → Price-call
+priced-by-ac-and-b pence =
+    record {
+      lent = lent (room 5 5 768 3);
+      left = left-by-ac-and-b;
+      found = replicate 3 9;
+      found' = 1 ∷ 9 ∷ 9 ∷ [];
+      answer = price-answered 0 pence;
+    }
 
 -- the table; above each row stands document 01's line, or document 02's
 unfoldable pub examples : List Example
@@ -992,6 +1178,309 @@ examples =
     ∷ both-explained 0 (a ∷ c ∷ []) aac (replicate 3 a) (explain-answered 0 2 1 0 0) (explain-answered 0 2 1 0 0)
     ∷ both-priced 1 (a ∷ c ∷ []) aac (replicate 3 a) (priced-aac 58) (priced-aac 18)
     ∷ both-paired 1 (a ∷ c ∷ []) aac (b ∷ a ∷ c ∷ b ∷ []) searched-aac (call (searched-aac .left) (searched-aac .left) (answer 0 1 4 0 2 8))
+    ∷ []))
+    -- Document 02, "A rule table": 1 to 16 rules, each a motif and a q, numbered from 1; 11 for no
+    -- rules or more than 16, before 4. Rules are tested from 1 up, each for 4 and then 5. A slot
+    -- past the last rule is no rule
+    ∷ row 42
+    (rules-give [] 11
+    ∷ rules-give (0 ∷ 1 ∷ 0 ∷ a ∷ []) 11
+    ∷ rules-give (1 ∷ 1 ∷ 0 ∷ a ∷ []) 0
+    ∷ rules-give (table sixteen) 0
+    ∷ rules-give (17 ∷ 0 ∷ 0 ∷ []) 11
+    ∷ rules-give (255 ∷ []) 11
+    ∷ rules-give (1 ∷ 0 ∷ 0 ∷ []) 4
+    ∷ rules-give (1 ∷ 128 ∷ 127 ∷ []) 0
+    ∷ rules-give (1 ∷ 129 ∷ 0 ∷ []) 4
+    ∷ rules-give (1 ∷ 129 ∷ 255 ∷ []) 4
+    ∷ rules-give (1 ∷ 255 ∷ 0 ∷ []) 4
+    ∷ rules-give (1 ∷ 128 ∷ 128 ∷ []) 5
+    ∷ rules-give (1 ∷ 1 ∷ 1 ∷ []) 5
+    ∷ rules-give (table (rule (a ∷ []) 1 ∷ rule [] 0 ∷ [])) 5
+    ∷ rules-give (table (rule [] 0 ∷ rule (a ∷ []) 1 ∷ [])) 4
+    ∷ rules-give (table (rule (a ∷ []) 0 ∷ rule [] 0 ∷ [])) 4
+    ∷ rules-give (table (replicate 15 (rule aac 2) ++ (rule aac 3 ∷ []))) 5
+    ∷ rules-are (table three-rules) three-rules
+    ∷ rules-are (1 ∷ slot-of (rule aac 2) ++ slot-of (rule (b ∷ []) 0)) (rule aac 2 ∷ [])
+    ∷ rules-are (2 ∷ slot-of (rule aac 2) ++ slot-of (rule (b ∷ []) 0)) (rule aac 2 ∷ rule (b ∷ []) 0 ∷ [])
+    ∷ [])
+    -- An edit puts a new motif and q in one numbered rule and keeps all others; its number is that
+    -- of a rule, or else it gives 11, before 4. Its new rule is tested last. Every rule has space
+    -- for 128 cards, so an edit never gives 7
+    ∷ row 43
+    (naming-gives (table a-and-c) 0 11
+    ∷ naming-gives (table a-and-c) 1 0
+    ∷ naming-gives (table a-and-c) 2 0
+    ∷ naming-gives (table a-and-c) 3 11
+    ∷ naming-gives (table sixteen) 16 0
+    ∷ naming-gives (table sixteen) 17 11
+    ∷ naming-gives (table sixteen) 0xFFFFFFFF 11
+    ∷ naming-gives (17 ∷ []) 17 11
+    ∷ naming-gives (2 ∷ []) 3 11
+    ∷ naming-gives (2 ∷ []) 2 4
+    ∷ naming-gives (table (rule (a ∷ []) 1 ∷ rule (c ∷ []) 0 ∷ [])) 2 5
+    ∷ editing-gives (table a-and-c) 1 128 127 0
+    ∷ editing-gives (table a-and-c) 2 1 0 0
+    ∷ editing-gives (table a-and-c) 2 0 0 4
+    ∷ editing-gives (table a-and-c) 2 129 0 4
+    ∷ editing-gives (table a-and-c) 2 128 128 5
+    ∷ editing-gives (table a-and-c) 3 0 0 11
+    ∷ editing-gives (table a-and-c) 0 0 0 11
+    ∷ editing-gives (17 ∷ []) 1 1 0 11
+    ∷ editing-gives (table (rule (a ∷ []) 1 ∷ [])) 1 0 0 5
+    ∷ editing-gives (table (rule [] 0 ∷ [])) 1 1 1 4
+    ∷ editing-leaves 2 1 aac (table (rule (a ∷ []) 0 ∷ rule cbaaa 4 ∷ []))
+    (2 ∷ slot-of (rule (a ∷ []) 0) ++ (3 ∷ 1 ∷ a ∷ a ∷ c ∷ a ∷ a ∷ replicate 123 0) ++ replicate 1820 0)
+    (zeros-beside 0)
+    ∷ editing-leaves 1 127 (replicate 128 c) (table a-and-c)
+    (table (rule (replicate 128 c) 127 ∷ rule (c ∷ []) 0 ∷ [])) (zeros-beside 0)
+    ∷ editing-leaves 3 0 aac (table a-and-c) (table a-and-c) (zeros-beside 11)
+    ∷ editing-leaves 1 3 aac (table a-and-c) (table a-and-c) (zeros-beside 5)
+    ∷ editing-leaves 2 0 [] (table a-and-c) (table a-and-c) (zeros-beside 4)
+    ∷ [])
+    -- The hold frame says which rule gave it: 256 times its number, so rule 1 prints as before.
+    -- Finds, looks, p and the bound are told per rule, and each rule that found nothing is marked,
+    -- and no other. Finds and tables stand rule after rule. A ring shorter than every motif, and an
+    -- empty one
+    ∷ row 44
+    (rule-frames-are (rule aacaa 2 ∷ []) listing listing-frames
+    ∷ rule-frames-are three-rules listing (a ∷ 768 ∷ 256 ∷ a ∷ a ∷ 768 ∷ 256 ∷ a ∷ a ∷ [])
+    ∷ rules-found-are three-rules listing (0 ∷ 4 ∷ 1 ∷ 5 ∷ [])
+    ∷ rules-told-are three-rules listing (and-nothing (told 2 13 3 21 0 ∷ told 0 9 1 17 1 ∷ told 2 9 2 18 0 ∷ []))
+    ∷ rules-needed-are three-rules (room 11 11 2048 8)
+    ∷ rules-cost-is three-rules listing 214
+    ∷ rules-found-are (third (c ∷ c ∷ []) 0) listing (0 ∷ 4 ∷ 3 ∷ 7 ∷ 8 ∷ [])
+    ∷ rules-told-are (third (c ∷ c ∷ []) 0) listing (and-nothing (told 2 13 3 21 0 ∷ told 3 9 1 19 0 ∷ told 0 5 1 18 1 ∷ []))
+    ∷ rule-frames-are (third (c ∷ c ∷ []) 0) listing (512 ∷ a ∷ 256 ∷ a ∷ 512 ∷ a ∷ 256 ∷ a ∷ 512 ∷ [])
+    ∷ rule-frames-are (third (c ∷ a ∷ []) 1) listing (512 ∷ a ∷ 256 ∷ 768 ∷ 512 ∷ a ∷ 256 ∷ 768 ∷ 512 ∷ [])
+    ∷ rule-frames-are sixteen (16 ∷ 2 ∷ 1 ∷ 17 ∷ []) (4096 ∷ 512 ∷ 256 ∷ 17 ∷ [])
+    ∷ rules-found-are sixteen (16 ∷ 2 ∷ 1 ∷ 17 ∷ []) (2 ∷ 1 ∷ 0 ∷ [])
+    ∷ rules-told-are sixteen (16 ∷ 2 ∷ [])
+    (told 0 2 1 3 1 ∷ told 1 2 1 3 0 ∷ replicate 13 (told 0 2 1 3 1) ++ (told 1 2 1 3 0 ∷ []))
+    ∷ rules-told-are (rule aac 0 ∷ rule (b ∷ []) 0 ∷ []) [] (and-nothing (told 0 0 3 0 1 ∷ told 0 0 1 0 1 ∷ []))
+    ∷ rules-needed-are (rule aac 0 ∷ []) (needed 3)
+    ∷ rules-needed-are (replicate 16 (rule (replicate 128 a) 0)) (room 2064 2064 524288 2048)
+    ∷ rules-found-are (rule acaca 4 ∷ rule (c ∷ a ∷ cac) 0 ∷ []) (a ∷ c ∷ []) (0 ∷ 1 ∷ [])
+    ∷ rule-frames-are (rule acaca 4 ∷ rule (c ∷ a ∷ cac) 0 ∷ []) (a ∷ c ∷ []) (256 ∷ 512 ∷ [])
+    ∷ rule-frames-are (rule (a ∷ c ∷ []) 1 ∷ rule aac 0 ∷ []) (c ∷ a ∷ a ∷ []) (256 ∷ 512 ∷ a ∷ [])
+    ∷ rules-cost-is (rule (a ∷ c ∷ []) 1 ∷ rule aac 0 ∷ []) (c ∷ a ∷ a ∷ []) 98
+    ∷ rules-cost-is (rule (a ∷ c ∷ []) 1 ∷ rule (b ∷ []) 0 ∷ []) (c ∷ a ∷ a ∷ []) 58
+    ∷ rules-cost-is a-and-c [] 0
+    ∷ [])
+    -- 12: two rules claiming the same card of this ring, also over the seam. Equal rules, a rule
+    -- inside another, equal motifs with two hold places; one rule alone claims no card twice. Rules
+    -- that can meet need not meet on this ring
+    ∷ row 45
+    (claimed-twice-is (rule aacaa 2 ∷ rule (c ∷ []) 0 ∷ []) listing true
+    ∷ claimed-twice-is (rule aacaa 1 ∷ rule (c ∷ []) 0 ∷ []) listing false
+    ∷ claimed-twice-is (third (c ∷ a ∷ []) 1) listing false
+    ∷ claimed-twice-is (third (a ∷ c ∷ []) 1) listing true
+    ∷ claimed-twice-is a-twice (c ∷ a ∷ []) true
+    ∷ claimed-twice-is a-twice (c ∷ []) false
+    ∷ claimed-twice-is a-twice [] false
+    ∷ claimed-twice-is (rule (a ∷ c ∷ []) 0 ∷ rule (a ∷ c ∷ []) 1 ∷ []) acaca false
+    ∷ claimed-twice-is (rule (a ∷ a ∷ []) 0 ∷ rule (a ∷ a ∷ []) 1 ∷ []) (a ∷ a ∷ []) true
+    ∷ claimed-twice-is (rule aac 2 ∷ rule (c ∷ a ∷ []) 0 ∷ []) (c ∷ a ∷ a ∷ []) true
+    ∷ claimed-twice-is (rule aac 1 ∷ rule (c ∷ a ∷ []) 0 ∷ []) (c ∷ a ∷ a ∷ []) false
+    ∷ claimed-twice-is (rule aac 2 ∷ rule (a ∷ c ∷ []) 1 ∷ []) (c ∷ a ∷ a ∷ []) true
+    ∷ claimed-twice-is (rule acaca 4 ∷ rule (a ∷ []) 0 ∷ []) (a ∷ c ∷ []) true
+    ∷ claimed-twice-is (rule (a ∷ []) 0 ∷ rule (b ∷ []) 0 ∷ rule (c ∷ a ∷ []) 1 ∷ []) (c ∷ a ∷ []) true
+    ∷ claimed-twice-is (rule aaaa 3 ∷ []) (replicate 6 a) false
+    ∷ claimed-twice-is sixteen (16 ∷ 2 ∷ 1 ∷ 17 ∷ []) false
+    ∷ can-meet-is (rule aacaa 2) (rule (c ∷ []) 0) true
+    ∷ can-meet-is (rule aacaa 1) (rule (c ∷ []) 0) false
+    ∷ can-meet-is (rule (a ∷ c ∷ []) 0) (rule (b ∷ a ∷ []) 1) true
+    ∷ can-meet-is (rule (a ∷ c ∷ []) 0) (rule (a ∷ b ∷ []) 0) false
+    ∷ can-meet-is (rule (c ∷ a ∷ []) 1) (rule (b ∷ a ∷ []) 1) false
+    ∷ can-meet-is (rule (c ∷ a ∷ []) 1) (rule (a ∷ b ∷ []) 0) true
+    ∷ [])
+    -- Every search with the whole table: 11, 4, 5, 6, 7 by n entries for finds and by the sum of
+    -- the rules' sizes for each table, and 12 after 7. Each of the refused ones meets the later
+    -- conditions too, and one entry fewer in a buffer gives 7
+    ∷ row 46
+    (searching-rules-gives (table a-and-c) cac (room 4 4 512 2) 3 0
+    ∷ searching-rules-gives (17 ∷ []) (replicate 16385 a) no-room 0 11
+    ∷ searching-rules-gives (table (rule [] 0 ∷ [])) (replicate 16385 a) no-room 0 4
+    ∷ searching-rules-gives (table (rule (a ∷ []) 1 ∷ [])) (replicate 16385 a) no-room 0 5
+    ∷ searching-rules-gives (table a-twice) (replicate 16385 a) no-room 0 6
+    ∷ searching-rules-gives (table a-twice) (a ∷ []) (room 3 4 512 2) 1 7
+    ∷ searching-rules-gives (table a-twice) (a ∷ []) (room 4 3 512 2) 1 7
+    ∷ searching-rules-gives (table a-twice) (a ∷ []) (room 4 4 511 2) 1 7
+    ∷ searching-rules-gives (table a-twice) (a ∷ []) (room 4 4 512 1) 1 7
+    ∷ searching-rules-gives (table a-twice) (a ∷ []) (room 4 4 512 2) 0 7
+    ∷ searching-rules-gives (table a-twice) (a ∷ []) (room 4 4 512 2) 1 12
+    ∷ searching-rules-gives (table a-twice) (c ∷ []) (room 4 4 512 2) 1 0
+    ∷ searching-rules-gives (table sixteen) (16 ∷ []) (room 32 32 4096 16) 1 0
+    ∷ searching-rules-gives (table sixteen) (16 ∷ []) (room 32 32 4095 16) 1 7
+    ∷ converting-rules-gives (table a-and-c) cac (room 4 4 512 2) 3 3 0
+    ∷ converting-rules-gives [] (replicate 16385 a) no-room 0 0 11
+    ∷ converting-rules-gives (1 ∷ []) (replicate 16385 a) no-room 0 0 4
+    ∷ converting-rules-gives (table (rule (a ∷ []) 1 ∷ rule [] 0 ∷ [])) (replicate 16385 a) no-room 0 0 5
+    ∷ converting-rules-gives (table a-twice) (replicate 16385 a) no-room 0 0 6
+    ∷ converting-rules-gives (table a-twice) (a ∷ []) (room 4 4 512 1) 1 1 7
+    ∷ converting-rules-gives (table a-twice) (a ∷ []) (room 4 4 512 2) 0 1 7
+    ∷ converting-rules-gives (table a-twice) (a ∷ []) (room 4 4 512 2) 1 0 7
+    ∷ converting-rules-gives (table a-twice) (a ∷ []) (room 4 4 512 2) 1 1 12
+    ∷ [])
+    -- Whole calls of searching, converting and pricing with a table, done and refused. A buffer
+    -- that is filled has an entry more than is needed
+    ∷ row 47
+    (searching-rules-leaves (table a-and-c) cac lent-to-two left-by-two (replicate 4 9) (1 ∷ 0 ∷ 2 ∷ 9 ∷ [])
+    (rules-answer 0 (told 1 3 1 5 0 ∷ told 2 3 1 5 0 ∷ []))
+    ∷ searching-rules-leaves (table a-and-c) (c ∷ []) lent-to-two left-by-two (9 ∷ 9 ∷ []) (0 ∷ 9 ∷ [])
+    (rules-answer 0 (told 0 1 1 1 1 ∷ told 1 1 1 1 0 ∷ []))
+    ∷ searching-rules-leaves (table a-twice) (a ∷ []) lent-to-two lent-to-two (9 ∷ []) (9 ∷ []) (rules-refused 12)
+    ∷ searching-rules-leaves (table a-twice) (a ∷ a ∷ []) lent-to-two lent-to-two (9 ∷ []) (9 ∷ []) (rules-refused 7)
+    ∷ converting-rules-leaves (table a-and-c) cac lent-to-two left-by-two (replicate 4 9) (1 ∷ 0 ∷ 2 ∷ 9 ∷ [])
+    (replicate 4 9) (512 ∷ 256 ∷ 512 ∷ 9 ∷ []) (rules-answer 6 (told 1 3 1 5 0 ∷ told 2 3 1 5 0 ∷ []))
+    ∷ converting-rules-leaves (table (rule (c ∷ []) 0 ∷ [])) cac lent-to-one left-by-one (replicate 4 9)
+    (0 ∷ 2 ∷ 9 ∷ 9 ∷ [])
+    (replicate 4 9) (256 ∷ a ∷ 256 ∷ 9 ∷ []) (rules-answer 6 (told 2 3 1 5 0 ∷ []))
+    ∷ converting-rules-leaves (table a-and-c) [] lent-to-two left-by-two [] [] [] []
+    (rules-answer 0 (told 0 0 1 0 1 ∷ told 0 0 1 0 1 ∷ []))
+    ∷ converting-rules-leaves (table a-twice) (a ∷ []) lent-to-two lent-to-two (9 ∷ []) (9 ∷ []) (9 ∷ []) (9 ∷ [])
+    (rules-refused 12)
+    ∷ converting-rules-leaves (17 ∷ []) [] lent-to-two lent-to-two [] [] [] [] (rules-refused 11)
+    ∷ pricing-rules-leaves (table a-and-c) cac lent-to-two left-by-two (replicate 4 9) (1 ∷ 0 ∷ 2 ∷ 9 ∷ [])
+    (price-answered 0 138)
+    ∷ pricing-rules-leaves (table (rule (c ∷ []) 0 ∷ [])) cac lent-to-one left-by-one (replicate 4 9)
+    (0 ∷ 2 ∷ 9 ∷ 9 ∷ [])
+    (price-answered 0 98)
+    ∷ pricing-rules-leaves (table a-twice) (a ∷ []) lent-to-two lent-to-two (9 ∷ []) (9 ∷ []) (price-answered 12 0)
+    ∷ pricing-rules-leaves (table a-twice) (a ∷ []) lent-to-two lent-to-two [] [] (price-answered 7 0)
+    ∷ [])
+    -- Putting back uses the named rule's card; a frame that names no rule there gives 9, and so do
+    -- frames whose cards would give 12, after 7. A hold where its rule finds nothing, a move where
+    -- it does, and a hold of another rule
+    ∷ row 48
+    (restored-by-rules-are a-and-c (512 ∷ 256 ∷ b ∷ 512 ∷ []) (c ∷ a ∷ b ∷ c ∷ [])
+    ∷ restored-by-rules-are (rule acaca 4 ∷ rule (c ∷ a ∷ cac) 0 ∷ []) (256 ∷ 512 ∷ []) (a ∷ c ∷ [])
+    ∷ restored-by-rules-are sixteen (4096 ∷ 512 ∷ 256 ∷ 17 ∷ []) (16 ∷ 2 ∷ 1 ∷ 17 ∷ [])
+    ∷ restoring-by-rules-gives (table a-and-c) (512 ∷ 256 ∷ b ∷ 512 ∷ []) 4 0
+    ∷ restoring-by-rules-gives (table three-rules) (a ∷ 768 ∷ 256 ∷ a ∷ a ∷ 768 ∷ 256 ∷ a ∷ a ∷ []) 9 0
+    ∷ restoring-by-rules-gives (table (rule (c ∷ []) 0 ∷ [])) (256 ∷ []) 1 0
+    ∷ restoring-by-rules-gives (table (rule (c ∷ []) 0 ∷ [])) (512 ∷ []) 1 9
+    ∷ restoring-by-rules-gives (table a-and-c) (768 ∷ []) 1 9
+    ∷ restoring-by-rules-gives (table a-and-c) (257 ∷ []) 1 9
+    ∷ restoring-by-rules-gives (table a-and-c) (511 ∷ []) 1 9
+    ∷ restoring-by-rules-gives (table sixteen) (4096 ∷ []) 1 0
+    ∷ restoring-by-rules-gives (table sixteen) (4352 ∷ []) 1 9
+    ∷ restoring-by-rules-gives (table a-twice) (256 ∷ []) 1 9
+    ∷ restoring-by-rules-gives (table a-twice) (512 ∷ []) 1 9
+    ∷ restoring-by-rules-gives (table a-twice) (a ∷ []) 1 9
+    ∷ restoring-by-rules-gives (table a-twice) (c ∷ []) 1 0
+    ∷ restoring-by-rules-gives (table a-and-c) (a ∷ []) 1 9
+    ∷ restoring-by-rules-gives (table (rule (a ∷ []) 0 ∷ rule (a ∷ c ∷ []) 1 ∷ [])) (512 ∷ []) 1 9
+    ∷ restoring-by-rules-gives (table (rule (c ∷ b ∷ []) 0 ∷ rule (c ∷ a ∷ []) 0 ∷ [])) (256 ∷ a ∷ []) 2 9
+    ∷ restoring-by-rules-gives (table (rule (c ∷ b ∷ []) 0 ∷ rule (c ∷ a ∷ []) 0 ∷ [])) (512 ∷ a ∷ []) 2 0
+    ∷ restoring-by-rules-gives (17 ∷ []) (replicate 16385 257) 0 11
+    ∷ restoring-by-rules-gives (1 ∷ []) (replicate 16385 257) 0 4
+    ∷ restoring-by-rules-gives (1 ∷ 1 ∷ 1 ∷ []) (replicate 16385 257) 0 5
+    ∷ restoring-by-rules-gives (table a-and-c) (replicate 16385 257) 0 6
+    ∷ restoring-by-rules-gives (table a-and-c) (257 ∷ []) 0 7
+    ∷ restoring-by-rules-gives (table a-and-c) [] 0 0
+    ∷ restoring-by-rules-leaves (table a-and-c) (512 ∷ 256 ∷ []) (1 ∷ 1 ∷ 1 ∷ []) (c ∷ a ∷ 1 ∷ []) (zeros-beside 0)
+    ∷ restoring-by-rules-leaves (table a-and-c) (768 ∷ 256 ∷ []) (1 ∷ 1 ∷ 1 ∷ []) (1 ∷ 1 ∷ 1 ∷ []) (zeros-beside 9)
+    ∷ restoring-by-rules-leaves (table a-twice) (256 ∷ []) (1 ∷ []) (1 ∷ []) (zeros-beside 9)
+    ∷ [])
+    -- An explanation is for one rule, named by its number, or 11; its buffers need that rule's
+    -- sizes only, and no card's being claimed twice matters to it
+    ∷ row 49
+    (explaining-rule-gives (table (rule aacaa 2 ∷ rule (c ∷ []) 0 ∷ [])) 1 9 8 (needed 5) 0
+    ∷ explaining-rule-gives (table (rule aacaa 2 ∷ rule (c ∷ []) 0 ∷ [])) 2 9 8 (needed 1) 0
+    ∷ explaining-rule-gives (table (rule aacaa 2 ∷ rule (c ∷ []) 0 ∷ [])) 1 9 9 (needed 1) 7
+    ∷ explaining-rule-gives (table (rule aacaa 2 ∷ rule (c ∷ []) 0 ∷ [])) 2 9 9 (room 2 2 255 1) 7
+    ∷ explaining-rule-gives (table (rule aacaa 2 ∷ rule (c ∷ []) 0 ∷ [])) 2 9 9 (needed 1) 10
+    ∷ explaining-rule-gives (table a-and-c) 1 16385 16385 no-room 6
+    ∷ explaining-rule-gives (table a-and-c) 0 16385 16385 no-room 11
+    ∷ explaining-rule-gives (table a-and-c) 3 16385 16385 no-room 11
+    ∷ explaining-rule-gives (2 ∷ []) 3 16385 16385 no-room 11
+    ∷ explaining-rule-gives (2 ∷ []) 1 16385 16385 no-room 4
+    ∷ explaining-rule-gives (table (rule (c ∷ []) 0 ∷ rule (a ∷ []) 1 ∷ [])) 1 16385 16385 no-room 5
+    ∷ explaining-rule-leaves 2 2 (table a-and-c) cac lent-to-one left-by-one (explain-answered 0 1 0 0 0)
+    ∷ explaining-rule-leaves 1 2 (table a-and-c) cac lent-to-one left-by-one (explain-answered 0 2 0 0 0)
+    ∷ explaining-rule-leaves 2 0 (table a-twice) (a ∷ []) lent-to-one left-by-one (explain-answered 0 1 0 0 0)
+    ∷ explaining-rule-leaves 3 0 (table a-twice) (a ∷ []) lent-to-one lent-to-one (explain-answered 11 0 0 0 0)
+    ∷ [])
+    -- A table and a ring turned alike, and a ring started later. The two rings of demand 3 are
+    -- compared rule by rule: the search for a c looks at place 0 of neither a a c nor b a c, and so
+    -- tells the same of both, and that for b finds it there
+    ∷ row 50
+    (turned-rules-are 3 (rule (b ∷ a ∷ []) 0 ∷ rule aac 2 ∷ [])
+    (rule (0x60 ∷ 0x80 ∷ []) 1 ∷ rule (0x18 ∷ 0x60 ∷ 0x60 ∷ []) 0 ∷ [])
+    ∷ turned-rules-are 2 ac-and-b (rule (c ∷ a ∷ []) 0 ∷ rule (b ∷ []) 0 ∷ [])
+    ∷ rule-frames-are ac-and-b bac (512 ∷ a ∷ 256 ∷ [])
+    ∷ rule-frames-are (rule (c ∷ a ∷ []) 0 ∷ rule (b ∷ []) 0 ∷ []) (turned 2 bac) (256 ∷ a ∷ 512 ∷ [])
+    ∷ rule-frames-are ac-and-b (rotated 1 bac) (a ∷ 256 ∷ 512 ∷ [])
+    ∷ both-searched-by-rules 2 (table ac-and-b) aac searched-by-ac-and-b
+    (rules-call (searched-by-ac-and-b .left) (buffers left-by-ac-and-b (2 ∷ 9 ∷ 9 ∷ []) [])
+    (rules-answer 0 (told 1 4 2 6 0 ∷ told 0 3 1 5 1 ∷ [])))
+    ∷ both-paired-by-rule 1 (table ac-and-b) aac bac searched-by-ac-and-b
+    (rules-call (searched-by-ac-and-b .left) (buffers left-by-ac-and-b (1 ∷ 0 ∷ 9 ∷ []) [])
+    (rules-answer 0 (told 1 3 2 6 0 ∷ told 1 3 1 5 0 ∷ [])))
+    ∷ both-paired-by-rule 1 (table ac-and-b) aac bac
+    (rules-call (buffers (lent (room 5 5 768 3)) (replicate 3 9) (replicate 4 9))
+    (buffers left-by-ac-and-b (1 ∷ 9 ∷ 9 ∷ []) (a ∷ a ∷ 256 ∷ 9 ∷ []))
+    (rules-answer 6 (told 1 3 2 6 0 ∷ told 0 3 1 5 1 ∷ [])))
+    (rules-call (buffers left-by-ac-and-b (1 ∷ 9 ∷ 9 ∷ []) (a ∷ a ∷ 256 ∷ 9 ∷ []))
+    (buffers left-by-ac-and-b (1 ∷ 0 ∷ 9 ∷ []) (512 ∷ a ∷ 256 ∷ 9 ∷ []))
+    (rules-answer 5 (told 1 3 2 6 0 ∷ told 1 3 1 5 0 ∷ [])))
+    ∷ both-turned-by-rules 3 (table ac-and-b) (table ac-and-b-turned) bac
+    (rules-call (buffers left-by-ac-and-b (replicate 3 9) (replicate 3 9))
+    (buffers left-by-ac-and-b (1 ∷ 0 ∷ 9 ∷ []) (512 ∷ a ∷ 256 ∷ []))
+    (rules-answer 5 (told 1 3 2 6 0 ∷ told 1 3 1 5 0 ∷ [])))
+    (rules-call (buffers left-by-ac-and-b (replicate 3 9) (replicate 3 9))
+    (buffers left-by-ac-and-b-turned (0 ∷ 2 ∷ 9 ∷ []) (256 ∷ 0x60 ∷ 512 ∷ []))
+    (rules-answer 5 (told 1 3 2 6 0 ∷ told 1 3 1 5 0 ∷ [])))
+    -- what the laws of whole calls ask of a table of one rule, of buffers and of a price can be met
+    ∷ one-rule-is (table (rule (a ∷ c ∷ []) 1 ∷ [])) (a ∷ c ∷ []) 1
+    ∷ room-for-rules three-rules 9 (buffers (lent (room 11 11 2048 8)) (replicate 9 9) (replicate 9 9))
+    ∷ priced-by-rules (table ac-and-b) aac (priced-by-ac-and-b 58)
+    ∷ [])
+    -- One wrong claim of each kind of a table, in the order of the kinds, then some that are wrong
+    -- in another part
+    ∷ row 51
+    (map refuted
+    (rules-give (17 ∷ []) 0
+    ∷ rules-are (table a-and-c) (rule (a ∷ []) 0 ∷ [])
+    ∷ naming-gives (table a-and-c) 3 0
+    ∷ editing-gives (table a-and-c) 1 128 127 7
+    ∷ editing-leaves 1 0 (c ∷ []) (1 ∷ 1 ∷ 0 ∷ a ∷ []) (1 ∷ 1 ∷ 0 ∷ a ∷ []) (zeros-beside 0)
+    ∷ rule-frames-are a-and-c (c ∷ []) (256 ∷ [])
+    ∷ rules-found-are a-and-c (c ∷ a ∷ []) (0 ∷ 1 ∷ [])
+    ∷ rules-told-are (rule (b ∷ []) 0 ∷ []) (a ∷ []) (and-nothing (told 0 1 1 1 0 ∷ []))
+    ∷ rules-needed-are a-and-c (needed 1)
+    ∷ rules-cost-is a-and-c cac 98
+    ∷ can-meet-is (rule (a ∷ []) 0) (rule (a ∷ []) 0) false
+    ∷ claimed-twice-is a-twice (a ∷ []) false
+    ∷ searching-rules-gives (table a-twice) (a ∷ []) (room 4 4 512 2) 1 0
+    ∷ converting-rules-gives (table a-twice) (a ∷ []) (room 4 4 512 2) 1 0 12
+    ∷ searching-rules-leaves (table a-and-c) [] lent-to-two left-by-two (9 ∷ []) (9 ∷ [])
+    (rules-answer 0 (told 0 0 1 0 1 ∷ told 0 0 1 0 0 ∷ []))
+    ∷ converting-rules-leaves (table a-and-c) (c ∷ []) lent-to-two left-by-two (9 ∷ []) (0 ∷ []) (9 ∷ []) (256 ∷ [])
+    (rules-answer 2 (told 0 1 1 1 1 ∷ told 1 1 1 1 0 ∷ []))
+    ∷ pricing-rules-leaves (table a-and-c) (c ∷ []) lent-to-two left-by-two (9 ∷ []) (0 ∷ []) (price-answered 0 6)
+    ∷ restored-by-rules-are a-and-c (512 ∷ []) (a ∷ [])
+    ∷ restoring-by-rules-gives (table a-twice) (256 ∷ []) 1 12
+    ∷ restoring-by-rules-leaves (table a-and-c) (512 ∷ []) (1 ∷ []) (1 ∷ []) (zeros-beside 0)
+    ∷ explaining-rule-gives (table a-and-c) 0 1 0 (needed 1) 0
+    ∷ explaining-rule-leaves 2 0 (table a-twice) (a ∷ []) lent-to-one left-by-one (explain-answered 12 0 0 0 0)
+    ∷ turned-rules-are 2 (rule aac 2 ∷ []) (rule (c ∷ a ∷ a ∷ []) 2 ∷ [])
+    ∷ both-searched-by-rules 2 (table ac-and-b) aac searched-by-ac-and-b
+    (rules-call (searched-by-ac-and-b .left) (searched-by-ac-and-b .left) (rules-refused 12))
+    ∷ both-paired-by-rule 2 (table ac-and-b) aac bac searched-by-ac-and-b searched-by-ac-and-b
+    ∷ both-turned-by-rules 1 (table ac-and-b) (table ac-and-b-turned) aac searched-by-ac-and-b searched-by-ac-and-b
+    ∷ editing-leaves 2 0 (c ∷ []) (1 ∷ 1 ∷ 0 ∷ a ∷ []) (1 ∷ 1 ∷ 0 ∷ a ∷ []) (zeros-beside 0)
+    ∷ searching-rules-leaves (table a-and-c) (c ∷ []) lent-to-two left-by-two (9 ∷ []) (9 ∷ [])
+    (rules-answer 0 (told 0 1 1 1 1 ∷ told 1 1 1 1 0 ∷ []))
+    ∷ converting-rules-leaves (table a-and-c) [] lent-to-two lent-to-two [] [] [] []
+    (rules-answer 0 (told 0 0 1 0 1 ∷ told 0 0 1 0 1 ∷ []))
+    ∷ pricing-rules-leaves (table a-and-c) [] lent-to-two lent-to-two [] [] (price-answered 0 0)
+    ∷ restoring-by-rules-leaves (table a-twice) (256 ∷ []) (1 ∷ []) (1 ∷ []) (zeros-beside 12)
+    ∷ explaining-rule-leaves 2 2 (table a-and-c) cac lent-to-one lent-to-one (explain-answered 0 1 0 0 0)
+    ∷ one-rule-is (table a-and-c) (a ∷ []) 0
+    ∷ room-for-rules three-rules 9 (buffers (lent (room 10 11 2048 8)) (replicate 9 9) (replicate 9 9))
+    ∷ priced-by-rules (table ac-and-b) aac (priced-by-ac-and-b 59)
     ∷ []))
     ∷ []
 

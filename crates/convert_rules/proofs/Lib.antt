@@ -1,0 +1,3 @@
+pub mod Converted
+pub mod Paired
+pub mod Promises

@@ -1,0 +1,3 @@
+pub mod ConvertRules
+pub mod Paired
+pub mod Promises

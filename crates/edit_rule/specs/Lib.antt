@@ -1,0 +1,2 @@
+pub mod Edit
+pub mod Promises

@@ -1,0 +1,2 @@
+pub mod ExplainRule
+pub mod Promises

@@ -1,0 +1,4 @@
+pub mod Cost
+pub mod Priced
+pub mod Calls
+pub mod Promises

@@ -1,0 +1,2 @@
+pub mod PriceRules
+pub mod Promises

@@ -1,0 +1,4 @@
+pub mod Restored
+pub mod Matched
+pub mod One
+pub mod Table

@@ -1,0 +1,2 @@
+pub mod Conversions
+pub mod Promises

@@ -1,0 +1,4 @@
+pub mod Marked
+pub mod Holds
+pub mod One
+pub mod Written

@@ -1,0 +1,3 @@
+pub mod RuleFrames
+pub mod Promises
+pub mod Within

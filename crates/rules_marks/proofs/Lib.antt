@@ -1,0 +1,5 @@
+pub mod Walk
+pub mod Flagged
+pub mod Marks
+pub mod Blocks
+pub mod Flags

@@ -1,0 +1,4 @@
+pub mod Meeting
+pub mod Runs
+pub mod Apart
+pub mod Laid

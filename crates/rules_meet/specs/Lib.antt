@@ -1,0 +1,3 @@
+pub mod Meeting
+pub mod Flags
+pub mod Promises

@@ -1,0 +1,2 @@
+pub mod One
+pub mod Calls

@@ -1,0 +1,5 @@
+pub mod Rooms
+pub mod Parts
+pub mod Rows
+pub mod Filled
+pub mod UnderWay

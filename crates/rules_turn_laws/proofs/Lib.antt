@@ -1,0 +1,4 @@
+pub mod Frames
+pub mod Table
+pub mod Calls
+pub mod Edits
