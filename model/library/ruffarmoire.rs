@@ -1,6 +1,7 @@
-//! The eleven calls of the Rattle library, as `rt staticlib ruffarmoire` builds it. The calls take
+//! The seventeen calls of the Rattle library, as `rt staticlib ruffarmoire` builds it. The calls take
 //! any arguments, so the safe functions here only turn slices into pointers and lengths;
-//! `explained` also reads the answer of `explain`.
+//! `explained` and `explained_by_rule` also read the answers of `explain` and `explain_rule`. `Rules`
+//! is a table of rules, for the calls that take one.
 
 // A test program calls only what it tests.
 #![allow(dead_code)]
@@ -10,10 +11,15 @@ compile_error!(
     "target/staticlib/libruffarmoire.a is missing. Run `rt staticlib ruffarmoire` at the repository's root first."
 );
 
+use std::ops::Deref;
+
 use ruffarmoire_model::answers::{
-    Answer, ExplainAnswer, PriceAnswer, ReadAnswer, ReportAnswer, TurnAnswer, WriteAnswer,
+    Answer, ExplainAnswer, PriceAnswer, ReadAnswer, Refusal, ReportAnswer, RulesAnswer, TurnAnswer,
+    WriteAnswer,
 };
 use ruffarmoire_model::explain::{Explained, Unexplained};
+use ruffarmoire_model::rules::{slot, TableBytes, TABLE};
+use ruffarmoire_model::MAX_RULES;
 
 /// The stack, in bytes, that a thread needs to call `seek_report`. For every other call 8 KiB are
 /// enough.
@@ -21,7 +27,8 @@ pub const REPORT_STACK: usize = 192 * 1024;
 
 mod foreign {
     use super::{
-        Answer, ExplainAnswer, PriceAnswer, ReadAnswer, ReportAnswer, TurnAnswer, WriteAnswer,
+        Answer, ExplainAnswer, PriceAnswer, ReadAnswer, ReportAnswer, RulesAnswer, TableBytes,
+        TurnAnswer, WriteAnswer,
     };
 
     #[link(name = "ruffarmoire", kind = "static")]
@@ -160,6 +167,88 @@ mod foreign {
             delta3: *mut u16,
             delta3_length: usize,
         ) -> ExplainAnswer;
+
+        pub fn search_rules(
+            rules: *const TableBytes,
+            text: *const u8,
+            text_length: usize,
+            order: *mut i16,
+            order_length: usize,
+            delta2: *mut u16,
+            delta2_length: usize,
+            delta1: *mut u16,
+            delta1_length: usize,
+            delta3: *mut u16,
+            delta3_length: usize,
+            found: *mut u16,
+            found_length: usize,
+        ) -> RulesAnswer;
+
+        pub fn convert_rules(
+            rules: *const TableBytes,
+            text: *const u8,
+            text_length: usize,
+            order: *mut i16,
+            order_length: usize,
+            delta2: *mut u16,
+            delta2_length: usize,
+            delta1: *mut u16,
+            delta1_length: usize,
+            delta3: *mut u16,
+            delta3_length: usize,
+            found: *mut u16,
+            found_length: usize,
+            frames: *mut u16,
+            frames_length: usize,
+        ) -> RulesAnswer;
+
+        pub fn price_rules(
+            rules: *const TableBytes,
+            text: *const u8,
+            text_length: usize,
+            order: *mut i16,
+            order_length: usize,
+            delta2: *mut u16,
+            delta2_length: usize,
+            delta1: *mut u16,
+            delta1_length: usize,
+            delta3: *mut u16,
+            delta3_length: usize,
+            found: *mut u16,
+            found_length: usize,
+        ) -> PriceAnswer;
+
+        pub fn restore_rules(
+            rules: *const TableBytes,
+            frames: *const u16,
+            frames_length: usize,
+            text: *mut u8,
+            text_length: usize,
+        ) -> Answer;
+
+        pub fn explain_rule(
+            number: u32,
+            position: u32,
+            rules: *const TableBytes,
+            text: *const u8,
+            text_length: usize,
+            order: *mut i16,
+            order_length: usize,
+            delta2: *mut u16,
+            delta2_length: usize,
+            delta1: *mut u16,
+            delta1_length: usize,
+            delta3: *mut u16,
+            delta3_length: usize,
+        ) -> ExplainAnswer;
+
+        pub fn edit_rule(
+            number: u32,
+            hold_offset: u32,
+            pattern: *const u8,
+            pattern_length: usize,
+            rules: *mut TableBytes,
+        ) -> Answer;
     }
 }
 
@@ -412,4 +501,223 @@ pub fn explained(
 ) -> Result<Explained, Unexplained> {
     let answer = explain(position, pattern, text, order, delta2, delta1, delta3);
     Explained::told(position, text.len(), answer)
+}
+
+/// Searches with a table of rules. For b bytes of all its patterns in sum and k rules the buffers need
+/// b + k entries each of `order` and `delta2`, 256 b of `delta1`, b of `delta3` and n of `found`, as in
+/// the other calls that search with a table; what they hold afterwards stands rule after rule.
+pub fn search_rules(
+    rules: &TableBytes,
+    text: &[u8],
+    order: &mut [i16],
+    delta2: &mut [u16],
+    delta1: &mut [u16],
+    delta3: &mut [u16],
+    found: &mut [u16],
+) -> RulesAnswer {
+    // SAFETY: each pointer and length is that of a slice that stays borrowed during the call, and the
+    // table is borrowed too.
+    unsafe {
+        foreign::search_rules(
+            rules,
+            text.as_ptr(),
+            text.len(),
+            order.as_mut_ptr(),
+            order.len(),
+            delta2.as_mut_ptr(),
+            delta2.len(),
+            delta1.as_mut_ptr(),
+            delta1.len(),
+            delta3.as_mut_ptr(),
+            delta3.len(),
+            found.as_mut_ptr(),
+            found.len(),
+        )
+    }
+}
+
+#[allow(clippy::too_many_arguments)]
+pub fn convert_rules(
+    rules: &TableBytes,
+    text: &[u8],
+    order: &mut [i16],
+    delta2: &mut [u16],
+    delta1: &mut [u16],
+    delta3: &mut [u16],
+    found: &mut [u16],
+    frames: &mut [u16],
+) -> RulesAnswer {
+    // SAFETY: each pointer and length is that of a slice that stays borrowed during the call, and the
+    // table is borrowed too.
+    unsafe {
+        foreign::convert_rules(
+            rules,
+            text.as_ptr(),
+            text.len(),
+            order.as_mut_ptr(),
+            order.len(),
+            delta2.as_mut_ptr(),
+            delta2.len(),
+            delta1.as_mut_ptr(),
+            delta1.len(),
+            delta3.as_mut_ptr(),
+            delta3.len(),
+            found.as_mut_ptr(),
+            found.len(),
+            frames.as_mut_ptr(),
+            frames.len(),
+        )
+    }
+}
+
+pub fn price_rules(
+    rules: &TableBytes,
+    text: &[u8],
+    order: &mut [i16],
+    delta2: &mut [u16],
+    delta1: &mut [u16],
+    delta3: &mut [u16],
+    found: &mut [u16],
+) -> PriceAnswer {
+    // SAFETY: each pointer and length is that of a slice that stays borrowed during the call, and the
+    // table is borrowed too.
+    unsafe {
+        foreign::price_rules(
+            rules,
+            text.as_ptr(),
+            text.len(),
+            order.as_mut_ptr(),
+            order.len(),
+            delta2.as_mut_ptr(),
+            delta2.len(),
+            delta1.as_mut_ptr(),
+            delta1.len(),
+            delta3.as_mut_ptr(),
+            delta3.len(),
+            found.as_mut_ptr(),
+            found.len(),
+        )
+    }
+}
+
+pub fn restore_rules(rules: &TableBytes, frames: &[u16], text: &mut [u8]) -> Answer {
+    // SAFETY: each pointer and length is that of a slice that stays borrowed during the call, and the
+    // table is borrowed too.
+    unsafe {
+        foreign::restore_rules(
+            rules,
+            frames.as_ptr(),
+            frames.len(),
+            text.as_mut_ptr(),
+            text.len(),
+        )
+    }
+}
+
+/// Explains a position of the text for the rule with this number, from 1, as `explain` does for its
+/// pattern and with the buffers that this needs.
+#[allow(clippy::too_many_arguments)]
+pub fn explain_rule(
+    number: u32,
+    position: u32,
+    rules: &TableBytes,
+    text: &[u8],
+    order: &mut [i16],
+    delta2: &mut [u16],
+    delta1: &mut [u16],
+    delta3: &mut [u16],
+) -> ExplainAnswer {
+    // SAFETY: each pointer and length is that of a slice that stays borrowed during the call, and the
+    // table is borrowed too.
+    unsafe {
+        foreign::explain_rule(
+            number,
+            position,
+            rules,
+            text.as_ptr(),
+            text.len(),
+            order.as_mut_ptr(),
+            order.len(),
+            delta2.as_mut_ptr(),
+            delta2.len(),
+            delta1.as_mut_ptr(),
+            delta1.len(),
+            delta3.as_mut_ptr(),
+            delta3.len(),
+        )
+    }
+}
+
+/// Explains a position of the text as `explain_rule` does, told as `explained` tells it.
+#[allow(clippy::too_many_arguments)]
+pub fn explained_by_rule(
+    number: u32,
+    position: u32,
+    rules: &TableBytes,
+    text: &[u8],
+    order: &mut [i16],
+    delta2: &mut [u16],
+    delta1: &mut [u16],
+    delta3: &mut [u16],
+) -> Result<Explained, Unexplained> {
+    let answer = explain_rule(number, position, rules, text, order, delta2, delta1, delta3);
+    Explained::told(position, text.len(), answer)
+}
+
+/// Puts a new pattern and hold offset in the rule with this number, from 1. `Rules::edit` does the same.
+pub fn edit_rule(number: u32, hold_offset: u32, pattern: &[u8], rules: &mut TableBytes) -> Answer {
+    // SAFETY: each pointer and length is that of a slice that stays borrowed during the call, and the
+    // table is borrowed too.
+    unsafe { foreign::edit_rule(number, hold_offset, pattern.as_ptr(), pattern.len(), rules) }
+}
+
+/// A table of 1 to 16 rules (each a motif and a hold place). `&rules` goes wherever a call takes a table.
+#[derive(Clone, Copy, Debug, PartialEq, Eq)]
+pub struct Rules(TableBytes);
+
+impl Rules {
+    /// A table of these rules, each a pattern and a hold offset, numbered from 1 in this order; or the
+    /// number by which a call would refuse it.
+    pub fn new(rules: &[(&[u8], u32)]) -> Result<Rules, u32> {
+        if rules.is_empty() || rules.len() > MAX_RULES {
+            return Err(Refusal::RuleNumber.status());
+        }
+        let mut table = Rules([0; TABLE]);
+        table.0[0] = rules.len() as u8;
+        // Until it is edited, a rule is one byte, which has the hold.
+        for number in 1..=rules.len() {
+            table.0[slot(number)] = 1;
+        }
+        for (number, (pattern, hold_offset)) in (1..).zip(rules) {
+            table.edit(number, *hold_offset, pattern)?;
+        }
+        Ok(table)
+    }
+
+    /// Puts a new pattern and hold offset in one rule, or gives the number by which that is refused. Then
+    /// the table is as it was.
+    pub fn edit(&mut self, number: u32, hold_offset: u32, pattern: &[u8]) -> Result<(), u32> {
+        match edit_rule(number, hold_offset, pattern, &mut self.0).status {
+            0 => Ok(()),
+            status => Err(status),
+        }
+    }
+
+    /// The rules, each a pattern and a hold offset, rule 1 first.
+    pub fn rules(&self) -> impl Iterator<Item = (&[u8], u32)> {
+        let count = usize::from(self.0[0]);
+        (1..=count).map(|number| {
+            let bytes = &self.0[slot(number)..];
+            (&bytes[2..2 + usize::from(bytes[0])], u32::from(bytes[1]))
+        })
+    }
+}
+
+/// The bytes of the table.
+impl Deref for Rules {
+    type Target = TableBytes;
+
+    fn deref(&self) -> &TableBytes {
+        &self.0
+    }
 }

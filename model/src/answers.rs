@@ -1,5 +1,7 @@
 //! Refusals and answers.
 
+use crate::MAX_RULES;
+
 /// Why a call is refused.
 #[derive(Clone, Copy, Debug, PartialEq, Eq)]
 pub enum Refusal {
@@ -23,6 +25,10 @@ pub enum Refusal {
     NoConversion,
     /// 10: a position that is not below n.
     Position,
+    /// 11: a table of no rules or of more than 16, or a number that is no rule of the table.
+    RuleNumber,
+    /// 12: two rules that claim the same byte of the text.
+    ClaimedTwice,
 }
 
 impl Refusal {
@@ -39,6 +45,8 @@ impl Refusal {
             Refusal::Way => 8,
             Refusal::NoConversion => 9,
             Refusal::Position => 10,
+            Refusal::RuleNumber => 11,
+            Refusal::ClaimedTwice => 12,
         }
     }
 }
@@ -126,6 +134,34 @@ pub struct ExplainAnswer {
     pub kind: u32,
 }
 
+/// What a search tells of one rule of a table.
+#[repr(C)]
+#[derive(Clone, Copy, Debug, Default, PartialEq, Eq)]
+pub struct RuleAnswer {
+    /// h, the number of the rule's occurrences.
+    pub occurrences: u32,
+    /// C, the number of the rule's comparisons.
+    pub comparisons: u32,
+    /// p, the period of the rule's pattern.
+    pub period: u32,
+    /// The bound of demand 3 on C: 0 for an empty text.
+    pub bound: u32,
+    /// 1 where the rule has no occurrence, and else 0.
+    pub unmatched: u32,
+}
+
+/// What searching and converting with a table of rules answer.
+#[repr(C)]
+#[derive(Clone, Copy, Debug, Default, PartialEq, Eq)]
+pub struct RulesAnswer {
+    /// 0 for done, or the number of the refusal.
+    pub status: u32,
+    /// The ones of the text, where it is converted.
+    pub ones: u32,
+    /// What is told of rule k, at k - 1. Past the table's last rule all are zeros.
+    pub rules: [RuleAnswer; MAX_RULES],
+}
+
 /// A refused answer holds the refusal and zeros elsewhere.
 impl From<Refusal> for Answer {
     fn from(refusal: Refusal) -> Answer {
@@ -186,6 +222,15 @@ impl From<Refusal> for ExplainAnswer {
         ExplainAnswer {
             answer: refusal.into(),
             ..ExplainAnswer::default()
+        }
+    }
+}
+
+impl From<Refusal> for RulesAnswer {
+    fn from(refusal: Refusal) -> RulesAnswer {
+        RulesAnswer {
+            status: refusal.status(),
+            ..RulesAnswer::default()
         }
     }
 }

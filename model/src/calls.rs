@@ -16,7 +16,7 @@ use crate::turn::{turned_job, Way};
 use crate::{convert, job, price, seek, steps};
 
 /// Refusal 7 for one buffer.
-fn check_buffer(length: usize, needed: usize) -> Result<(), Refusal> {
+pub(crate) fn check_buffer(length: usize, needed: usize) -> Result<(), Refusal> {
     if length < needed {
         Err(Refusal::ShortBuffer)
     } else {
@@ -124,7 +124,11 @@ impl TableLengths {
     }
 
     fn check(&self, m: usize) -> Result<(), Refusal> {
-        let needed = TableLengths::needed(m);
+        self.check_needed(TableLengths::needed(m))
+    }
+
+    /// Refusal 7 where one of these is less than what is needed.
+    pub(crate) fn check_needed(&self, needed: TableLengths) -> Result<(), Refusal> {
         check_buffer(self.order, needed.order)?;
         check_buffer(self.delta1, needed.delta1)?;
         check_buffer(self.delta2, needed.delta2)?;

@@ -2,7 +2,8 @@
 
 use crate::ring::byte_at;
 
-/// The frame that is a hold. The frames 0 to 255 are moves.
+/// The frame that is a hold, of the only pattern or of a table's first rule. The frames 0 to 255 are
+/// moves.
 pub const HOLD: u16 = 256;
 
 /// The positions b below n with w(j) at b + j for each j from 0 to m - 1, ascending.

@@ -1,10 +1,11 @@
-//! A plain model of document 01 and of document 02's requests U1, U2, U3 and U5 to U10, written from
+//! A plain model of document 01 and of document 02's requests U1, U2, U3 and U5 to U11, written from
 //! these documents alone; U4 changes no answer.
 //!
 //! It follows the definitions word by word and takes no short cuts: the tables by their sets, a byte
 //! of the ring by its number modulo n, the occurrences by their meaning, the search by its steps with
 //! every comparison written down, a mirrored byte by its bits, frames put back by converting again, a
-//! price byte by byte over the frames, an explanation by all alignments and comparisons of the search.
+//! price byte by byte over the frames, an explanation by all alignments and comparisons of the search,
+//! two rules that claim one byte by all holds of both.
 //! It shares no code and no table with the library that it is compared with.
 //!
 //! The documents have trade words for the things of this field. Here they go by the field's names:
@@ -31,8 +32,8 @@
 //! In this folder. Those of the library and of SEEK need, at the repository's root and first,
 //! `rt staticlib ruffarmoire` and `rt check seek`.
 //!
-//! - `cargo test --release --lib --test worked_examples --test consistency --test shifts`: the model's
-//!   own tests.
+//! - `cargo test --release --lib --test worked_examples --test rule_examples --test consistency --test
+//!   shifts`: the model's own tests.
 //! - `cargo test --release`: also the tests of the library and of SEEK against the model.
 //! - `cargo run --release --example bench`: their speed beside plain Rust versions.
 
@@ -45,6 +46,8 @@ pub mod job;
 pub mod price;
 pub mod restore;
 pub mod ring;
+pub mod rule_calls;
+pub mod rules;
 pub mod seek;
 pub mod steps;
 pub mod tables;
@@ -55,3 +58,6 @@ pub const MAX_PATTERN: usize = 128;
 
 /// The most bytes that a text has.
 pub const MAX_TEXT: usize = 16_384;
+
+/// The most rules that a table has.
+pub const MAX_RULES: usize = 16;

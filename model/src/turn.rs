@@ -1,7 +1,6 @@
 //! Turning a job: every byte mirrored, the order of the bytes reversed, or both.
 
 use crate::answers::Refusal;
-use crate::convert::HOLD;
 use crate::job::Job;
 
 /// How a job is turned.
@@ -48,11 +47,11 @@ pub fn mirrored(byte: u8) -> u8 {
         .sum()
 }
 
-/// A frame mirrored: a hold stays a hold, and a move has its byte mirrored.
+/// A frame mirrored: a hold stays that hold, and a move has its byte mirrored.
 fn mirrored_frame(frame: u16) -> u16 {
     match u8::try_from(frame) {
         Ok(byte) => u16::from(mirrored(byte)),
-        Err(_) => HOLD,
+        Err(_) => frame,
     }
 }
 

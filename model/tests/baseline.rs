@@ -14,14 +14,17 @@ use common::prepare_suite::PrepareCalls;
 use common::price_suite::PriceCalls;
 use common::report_suite::ReportCalls;
 use common::restore_suite::RestoreCalls;
+use common::rules_suite::RulesCalls;
 use common::searches;
 use common::table_buffers::{entries, LentTables};
 use common::turn_suite::TurnCalls;
 use common::{repeats, rings};
 use ruffarmoire_model::answers::{
-    Answer, ExplainAnswer, PriceAnswer, ReadAnswer, ReportAnswer, TurnAnswer, WriteAnswer,
+    Answer, ExplainAnswer, PriceAnswer, ReadAnswer, ReportAnswer, RulesAnswer, TurnAnswer,
+    WriteAnswer,
 };
 use ruffarmoire_model::convert;
+use ruffarmoire_model::rules::TableBytes;
 
 struct Baseline;
 
@@ -154,6 +157,78 @@ impl ExplainCalls for Baseline {
     }
 }
 
+impl RulesCalls for Baseline {
+    fn search_rules(
+        rules: &TableBytes,
+        text: &[u8],
+        tables: LentTables,
+        found: &mut [u16],
+    ) -> RulesAnswer {
+        let LentTables {
+            order,
+            delta2,
+            delta1,
+            delta3,
+        } = tables;
+        baseline::rules::search_rules(rules, text, order, delta2, delta1, delta3, found)
+    }
+
+    fn convert_rules(
+        rules: &TableBytes,
+        text: &[u8],
+        tables: LentTables,
+        found: &mut [u16],
+        frames: &mut [u16],
+    ) -> RulesAnswer {
+        let LentTables {
+            order,
+            delta2,
+            delta1,
+            delta3,
+        } = tables;
+        baseline::rules::convert_rules(rules, text, order, delta2, delta1, delta3, found, frames)
+    }
+
+    fn price_rules(
+        rules: &TableBytes,
+        text: &[u8],
+        tables: LentTables,
+        found: &mut [u16],
+    ) -> PriceAnswer {
+        let LentTables {
+            order,
+            delta2,
+            delta1,
+            delta3,
+        } = tables;
+        baseline::rules::price_rules(rules, text, order, delta2, delta1, delta3, found)
+    }
+
+    fn restore_rules(rules: &TableBytes, frames: &[u16], text: &mut [u8]) -> Answer {
+        baseline::rules::restore_rules(rules, frames, text)
+    }
+
+    fn explain_rule(
+        number: u32,
+        position: u32,
+        rules: &TableBytes,
+        text: &[u8],
+        tables: LentTables,
+    ) -> ExplainAnswer {
+        let LentTables {
+            order,
+            delta2,
+            delta1,
+            delta3,
+        } = tables;
+        baseline::rules::explain_rule(number, position, rules, text, order, delta2, delta1, delta3)
+    }
+
+    fn edit_rule(number: u32, hold: u32, pattern: &[u8], rules: &mut TableBytes) -> Answer {
+        baseline::rules::edit_rule(number, hold, pattern, rules)
+    }
+}
+
 mod job {
     job_suite!(crate::Baseline);
 }
@@ -198,6 +273,22 @@ mod price {
 
 mod explain {
     explain_suite!(crate::Baseline);
+}
+
+mod rules {
+    rules_suite!(crate::Baseline);
+}
+
+mod restore_rules {
+    restore_rules_suite!(crate::Baseline);
+}
+
+mod explain_rule {
+    explain_rule_suite!(crate::Baseline);
+}
+
+mod edit_rule {
+    edit_rule_suite!(crate::Baseline);
 }
 
 /// What `memmem` and the plain scan find.

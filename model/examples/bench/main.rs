@@ -24,13 +24,14 @@ mod prepare;
 mod price;
 mod program;
 mod restore;
+mod rules;
 mod search;
 mod table_buffers;
 mod timing;
 mod turn;
 
 /// The parts, in the order in which they run.
-const PARTS: [(&str, fn()); 9] = [
+const PARTS: [(&str, fn()); 10] = [
     ("calls", calls::run),
     ("turn", turn::run),
     ("restore", restore::run),
@@ -38,6 +39,7 @@ const PARTS: [(&str, fn()); 9] = [
     ("prepare", prepare::run),
     ("search", search::run),
     ("explain", explain::run),
+    ("rules", rules::run),
     ("program", program::run),
     ("comparisons", comparisons::run),
 ];

@@ -15,6 +15,7 @@ pub mod files;
 pub mod lengths;
 pub mod repeats;
 pub mod rings;
+pub mod rule_tables;
 pub mod searches;
 pub mod table_buffers;
 pub mod words;
@@ -24,6 +25,10 @@ pub mod searching;
 
 #[macro_use]
 pub mod converter_suite;
+#[macro_use]
+pub mod edit_rule_suite;
+#[macro_use]
+pub mod explain_rule_suite;
 #[macro_use]
 pub mod explain_suite;
 #[macro_use]
@@ -37,6 +42,10 @@ pub mod price_suite;
 #[macro_use]
 pub mod report_suite;
 #[macro_use]
+pub mod restore_rules_suite;
+#[macro_use]
 pub mod restore_suite;
+#[macro_use]
+pub mod rules_suite;
 #[macro_use]
 pub mod turn_suite;

@@ -164,16 +164,16 @@ impl Lengths {
 
 /// The caller's buffers.
 #[derive(Clone)]
-struct Buffers {
-    tables: TableBuffers,
-    found: Buffer<u16>,
-    frames: Buffer<u16>,
+pub struct Buffers {
+    pub tables: TableBuffers,
+    pub found: Buffer<u16>,
+    pub frames: Buffer<u16>,
 }
 
 impl Buffers {
     /// Two fillings for a pattern of m bytes and a text of n: an entry that is left by chance as it
     /// should be is seen in one of them.
-    fn fillings(m: usize, n: usize, lengths: Lengths) -> [Buffers; 2] {
+    pub fn fillings(m: usize, n: usize, lengths: Lengths) -> [Buffers; 2] {
         let [junk, wrong] = TableBuffers::fillings(m, lengths.tables);
         [(junk, n), (wrong, n + 101)].map(|(tables, seed)| Buffers {
             tables,
@@ -182,7 +182,7 @@ impl Buffers {
         })
     }
 
-    fn lent(&mut self) -> Lent<'_> {
+    pub fn lent(&mut self) -> Lent<'_> {
         Lent {
             tables: self.tables.lent(),
             found: self.found.lent(),
@@ -191,7 +191,7 @@ impl Buffers {
     }
 
     /// The buffers after a call with this outcome.
-    fn after(self, outcome: &Outcome) -> Buffers {
+    pub fn after(self, outcome: &Outcome) -> Buffers {
         Buffers {
             tables: self.tables.after(outcome),
             found: self.found.after(&entries(&outcome.occurrences)),
@@ -199,7 +199,7 @@ impl Buffers {
         }
     }
 
-    fn expect(&self, expected: &Buffers, context: &dyn Fn() -> String) {
+    pub fn expect(&self, expected: &Buffers, context: &dyn Fn() -> String) {
         self.frames.expect(&expected.frames, "frames", context);
         self.found.expect(&expected.found, "found", context);
         self.tables.expect(&expected.tables, context);
@@ -413,7 +413,7 @@ pub fn order_of_refusals<T: SearchingCall>() {
 }
 
 /// The needed lengths, each buffer alone one too short, all of them, and all of no entries.
-fn faulty_lengths(needed: Lengths) -> Vec<Lengths> {
+pub fn faulty_lengths(needed: Lengths) -> Vec<Lengths> {
     let mut lengths = needed.one_too_short(needed);
     lengths.push(needed);
     lengths.push(needed.changed(|length| length.saturating_sub(1)));

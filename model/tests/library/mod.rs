@@ -4,8 +4,10 @@
 pub mod calls;
 
 use ruffarmoire_model::answers::{
-    Answer, ExplainAnswer, PriceAnswer, ReadAnswer, ReportAnswer, TurnAnswer, WriteAnswer,
+    Answer, ExplainAnswer, PriceAnswer, ReadAnswer, ReportAnswer, RulesAnswer, TurnAnswer,
+    WriteAnswer,
 };
+use ruffarmoire_model::rules::TableBytes;
 
 use crate::common::converter_suite::ConverterCalls;
 use crate::common::explain_suite::ExplainCalls;
@@ -15,6 +17,7 @@ use crate::common::prepare_suite::PrepareCalls;
 use crate::common::price_suite::PriceCalls;
 use crate::common::report_suite::ReportCalls;
 use crate::common::restore_suite::RestoreCalls;
+use crate::common::rules_suite::RulesCalls;
 use crate::common::table_buffers::LentTables;
 use crate::common::turn_suite::TurnCalls;
 
@@ -131,5 +134,77 @@ impl ExplainCalls for Library {
             delta3,
         } = tables;
         calls::explain(position, pattern, text, order, delta2, delta1, delta3)
+    }
+}
+
+impl RulesCalls for Library {
+    fn search_rules(
+        rules: &TableBytes,
+        text: &[u8],
+        tables: LentTables,
+        found: &mut [u16],
+    ) -> RulesAnswer {
+        let LentTables {
+            order,
+            delta2,
+            delta1,
+            delta3,
+        } = tables;
+        calls::search_rules(rules, text, order, delta2, delta1, delta3, found)
+    }
+
+    fn convert_rules(
+        rules: &TableBytes,
+        text: &[u8],
+        tables: LentTables,
+        found: &mut [u16],
+        frames: &mut [u16],
+    ) -> RulesAnswer {
+        let LentTables {
+            order,
+            delta2,
+            delta1,
+            delta3,
+        } = tables;
+        calls::convert_rules(rules, text, order, delta2, delta1, delta3, found, frames)
+    }
+
+    fn price_rules(
+        rules: &TableBytes,
+        text: &[u8],
+        tables: LentTables,
+        found: &mut [u16],
+    ) -> PriceAnswer {
+        let LentTables {
+            order,
+            delta2,
+            delta1,
+            delta3,
+        } = tables;
+        calls::price_rules(rules, text, order, delta2, delta1, delta3, found)
+    }
+
+    fn restore_rules(rules: &TableBytes, frames: &[u16], text: &mut [u8]) -> Answer {
+        calls::restore_rules(rules, frames, text)
+    }
+
+    fn explain_rule(
+        number: u32,
+        position: u32,
+        rules: &TableBytes,
+        text: &[u8],
+        tables: LentTables,
+    ) -> ExplainAnswer {
+        let LentTables {
+            order,
+            delta2,
+            delta1,
+            delta3,
+        } = tables;
+        calls::explain_rule(number, position, rules, text, order, delta2, delta1, delta3)
+    }
+
+    fn edit_rule(number: u32, hold: u32, pattern: &[u8], rules: &mut TableBytes) -> Answer {
+        calls::edit_rule(number, hold, pattern, rules)
     }
 }

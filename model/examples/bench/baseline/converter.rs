@@ -60,7 +60,7 @@ pub fn count_ones(text: &[u8]) -> Answer {
     }
 }
 
-fn ones(text: &[u8]) -> u32 {
+pub(super) fn ones(text: &[u8]) -> u32 {
     let words = text.chunks_exact(8);
     let rest: u32 = words.remainder().iter().map(|byte| byte.count_ones()).sum();
     let whole: u32 = words

@@ -40,7 +40,7 @@ pub fn search(
 /// # Safety
 ///
 /// The pattern has 1 to 128 bytes and the text at most 16,384. The tables are the pattern's, and
-/// there is an entry of `found` for each byte of the text.
+/// there is an entry of `found` for each occurrence.
 pub(super) unsafe fn run(
     pattern: &[u8],
     text: &[u8],

@@ -26,12 +26,16 @@ fn try_restore(hold: u32, pattern: &[u8], frames: &[u16], text: &mut [u8]) -> Re
         return Err(Refusal::TextLength);
     }
     let text = text.get_mut(..n).ok_or(Refusal::ShortBuffer)?;
-    if !is_conversion(pattern, hold, frames) {
+    let held = pattern[hold];
+    let are_frames = frames
+        .iter()
+        .fold(true, |all, &frame| all & (frame <= HOLD));
+    let byte_of = |frame| byte_of(frame, held);
+    if !are_frames || !holds_occurrences(pattern, hold, HOLD, frames, byte_of) {
         return Err(Refusal::NoConversion);
     }
-    let held = pattern[hold];
     for (byte, &frame) in text.iter_mut().zip(frames) {
-        *byte = byte_of(frame, held);
+        *byte = byte_of(frame);
     }
     Ok(())
 }
@@ -45,16 +49,21 @@ fn byte_of(frame: u16, held: u8) -> u8 {
     }
 }
 
-/// Whether each frame is a move or a hold, and the holds are just where occurrences of the pattern
-/// have them.
-fn is_conversion(pattern: &[u8], hold: usize, frames: &[u16]) -> bool {
+/// Whether the frames that are this hold are just those where occurrences of the pattern have theirs,
+/// in the text that has this byte for each frame.
+pub(super) fn holds_occurrences(
+    pattern: &[u8],
+    hold: usize,
+    own: u16,
+    frames: &[u16],
+    byte_of: impl Fn(u16) -> u8,
+) -> bool {
     let (m, n) = (pattern.len(), frames.len());
     if n == 0 {
         return true;
     }
-    let held = pattern[hold];
     let mut walk = Walk::new(pattern);
-    let mut ends_at = |frame| walk.ends_an_occurrence(byte_of(frame, held));
+    let mut ends_at = |frame| walk.ends_an_occurrence(byte_of(frame));
     // The occurrence that has its hold in frame 0 begins q frames before it, over the seam. The walk
     // goes from there to the frame before that occurrence's end; no occurrence ends on the way, which
     // has fewer frames than the pattern has bytes.
@@ -67,18 +76,14 @@ fn is_conversion(pattern: &[u8], hold: usize, frames: &[u16]) -> bool {
     let after = (m - 1 - hold) % n;
     let (first, rest) = frames.split_at(after);
     let last = &frames[n - after..];
-    frames
-        .iter()
-        .fold(true, |all, &frame| all & (frame <= HOLD))
-        && rest
-            .iter()
-            .zip(frames)
-            .chain(first.iter().zip(last))
-            .all(|(&frame, &before)| ends_at(frame) == (before == HOLD))
+    rest.iter()
+        .zip(frames)
+        .chain(first.iter().zip(last))
+        .all(|(&frame, &before)| ends_at(frame) == (before == own))
 }
 
 /// The search of Knuth, Morris and Pratt, a byte at a time.
-struct Walk<'a> {
+pub(super) struct Walk<'a> {
     pattern: &'a [u8],
     /// For each length of a prefix of the pattern, that of the longest shorter prefix that ends where
     /// it does.
@@ -88,7 +93,7 @@ struct Walk<'a> {
 }
 
 impl<'a> Walk<'a> {
-    fn new(pattern: &'a [u8]) -> Walk<'a> {
+    pub fn new(pattern: &'a [u8]) -> Walk<'a> {
         let mut walk = Walk {
             pattern,
             links: [0; MAX_PATTERN + 1],
@@ -103,7 +108,7 @@ impl<'a> Walk<'a> {
     }
 
     /// Goes on by a byte, and tells whether an occurrence ends with it.
-    fn ends_an_occurrence(&mut self, byte: u8) -> bool {
+    pub fn ends_an_occurrence(&mut self, byte: u8) -> bool {
         if self.matched == self.pattern.len() {
             self.matched = self.link();
         }
