@@ -22,8 +22,8 @@ fn block_at(bytes: &[u8], at: usize) -> [u8; BLOCK]
     block
 }
 
-// Copies a block into a buffer, from index `at` on.
-fn write_block(block: &[u8], at: usize, out: &mut [u8])
+// Copies a block of any length into a buffer, from index `at` on.
+pub fn write_block(block: &[u8], at: usize, out: &mut [u8])
     requires { ⌜ at + length (now block) ≤ length (now out) ⌝ }
     ensures { λ r. ⌜ after out ≡ from-entry at (before block) (before out) ⌝ }
 {

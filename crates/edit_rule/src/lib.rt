@@ -1,9 +1,7 @@
 // An edit of a rule table: a new rule is put in the place of a numbered one.
 use answers::Answer;
 ghost use mathlib.Core.Path.{_≡_};
-ghost use Prim.Native.Nat.{_+_, _≤_};
 ghost use lib.ListN.{length};
-ghost use Rattle.answers.specs.Buffers.{from-entry};
 ghost use Rattle.answers.specs.Contracts.{before, after};
 ghost use Rattle.rules.specs.Rules.{table-size};
 ghost use Rattle.edit_rule.specs.Edit.{edit-status, Edit-outcome};
@@ -20,16 +18,6 @@ fn edit_status(number: u32, hold_offset: u32, m: usize, rules: &[u8; 2081]) -> u
     answers::rule_status(m, hold_offset as usize)
 }
 
-// Copies bytes into a buffer from entry `at` on.
-fn write_bytes(bytes: &[u8], at: usize, out: &mut [u8])
-    requires { ⌜ at + length (now bytes) ≤ length (now out) ⌝ }
-    ensures { λ r. ⌜ after out ≡ from-entry at (before bytes) (before out) ⌝ }
-{
-    for i in 0..bytes.len() {
-        out[at + i] = bytes[i];
-    }
-}
-
 // Puts a new rule in the place of a numbered one and keeps every other, and the bytes of its slot
 // past its pattern (motif). A refused edit leaves the table as it was.
 pub fn edit_rule(number: u32, hold_offset: u32, pattern: &[u8], rules: &mut [u8; 2081]) -> Answer
@@ -43,6 +31,6 @@ pub fn edit_rule(number: u32, hold_offset: u32, pattern: &[u8], rules: &mut [u8;
     let at = rules::SLOT_SIZE * (number as usize - 1) + 1;
     rules[at] = pattern.len() as u8;
     rules[at + 1] = hold_offset as u8;
-    write_bytes(pattern, at + 2, rules);
+    copy_blocks::write_block(pattern, at + 2, rules);
     answers::status_only(0)
 }

@@ -31,7 +31,7 @@ restored-to {q} {w} {gs} {text} o =
 -- `convert` that is done leaves the frames
 converted-to :
     {q : ℕ} {w t : List ℕ} {c : Call} → convert-status-of q w t (c .lent .tables) (c .lent .found) (c .lent .frames) ≡ 0 →
-    Converts q w t c → Converted-to (frames q w t) c
+    Converts q w t c → Converted-to (frames q w t) (c .answer .status) (c .left .frames)
 unfolding answered if-done
 converted-to {q} {w} {t} {c} done h =
     let taken : Call-taken c = ap (λ (a : Answer). a .status) (rw done at (h .answer)) in

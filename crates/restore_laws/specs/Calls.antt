@@ -8,7 +8,8 @@ use Prim.Native.Nat.{ℕ, _≤_}
 use lib.ListN.{length, take}
 use Rattle.answers.specs.Bytes.{Bytes}
 use Rattle.answers.specs.declared.Answer.{Answer}
-use Rattle.tables.specs.Buffers.{lengths, tables-short}
+use Rattle.tables.specs.Buffers.{lengths, needed, short-of}
+use Rattle.tables.specs.declared.TableLengths.{TableLengths}
 use Rattle.convert.specs.Paired.{Buffers, Call, Call-taken, Converts}
 use Rattle.restore.specs.Restore.{Restore-outcome}
 
@@ -32,20 +33,23 @@ Calls-injective =
     → Converts q w t c → Call-taken c → Converts q w u d → Call-taken d
     → take (length t) (c .left .frames) ≡ take (length u) (d .left .frames) → t ≡ u
 
--- the buffers that `convert` is lent are long enough for this pattern (motif) and so many frames
-pub record Room-for (w : List ℕ) (n : ℕ) (lent : Buffers) : Type 0 where
-  pub tables : tables-short (length w) (lengths (lent .tables)) ≡ false
+-- the buffers that a conversion is lent are as long as its tables need, and have room for so many
+-- frames
+pub record Room-for (need : TableLengths) (n : ℕ) (lent : Buffers) : Type 0 where
+  pub tables : short-of need (lengths (lent .tables)) ≡ false
   pub found : n ≤ length (lent .found)
   pub frames : n ≤ length (lent .frames)
 
--- `convert` made this call: it is done, and its buffer begins with these frames
-pub record Converted-to (gs : List ℕ) (c : Call) : Type 0 where
-  pub done : Call-taken c
-  pub frames : take (length gs) (c .left .frames) ≡ gs
+-- a conversion answered this status and left the buffer frame': it is done, and the buffer begins
+-- with these frames
+pub record Converted-to (gs : List ℕ) (status : ℕ) (frame' : List ℕ) : Type 0 where
+  pub done : status ≡ 0
+  pub frames : take (length gs) frame' ≡ gs
 
 -- `restore` and then `convert` on the text that it left, with buffers long enough: for all that their contracts allow, the frames handed in
 -- come back
 unfoldable pub Calls-restored-converted : Type 0
 Calls-restored-converted =
     (q : ℕ) (w gs text text' : List ℕ) (r : Answer) → Restore-outcome q w gs text text' r → r .status ≡ 0
-    → (c : Call) → Converts q w (take (length gs) text') c → Room-for w (length gs) (c .lent) → Converted-to gs c
+    → (c : Call) → Converts q w (take (length gs) text') c → Room-for (needed (length w)) (length gs) (c .lent)
+    → Converted-to gs (c .answer .status) (c .left .frames)

@@ -10,7 +10,7 @@ use Rattle.answers.proofs.Fronts.{in-front-take}
 use Rattle.answers.specs.Answers.{if-done}
 use Rattle.answers.specs.declared.Answer.{Answer}
 use Rattle.tables.specs.Buffers.{lengths}
-use Rattle.restore_laws.specs.Calls.{Restored-to}
+use Rattle.restore_laws.specs.Calls.{Restored-to, Converted-to}
 use Rattle.rules.proofs.Taken.{table-inside, taken-refusals}
 use Rattle.rules.proofs.Tested.{table-taken, table-some}
 use Rattle.rules.specs.Rules.{Rule, Inside, rules-of, table-size}
@@ -29,8 +29,7 @@ use Rattle.rules_conversions.specs.Conversions.{restored}
 use Rattle.rules_conversions.specs.Promises.{Converted-restored, Conversion-injective, Restored-converted}
 use Rattle.restore_rules.proofs.Taken.{restorable, restorable-done, status-of}
 use Rattle.restore_rules.specs.RestoreRules.{restore-rules-status, restored-left, Restore-rules-outcome-of}
-use Rattle.rules_restore_laws.specs.Calls.{Calls-converted-restored, Calls-injective, Rules-converted-to}
-use Rattle.rules_restore_laws.specs.Calls.{Calls-restored-converted}
+use Rattle.rules_restore_laws.specs.Calls.{Calls-converted-restored, Calls-injective, Calls-restored-converted}
 
 -- `restore_rules` that is done leaves what is put back
 restored-to :
@@ -47,7 +46,7 @@ status-by x t c = convert-rules-status-of x t (c .lent .tables) (c .lent .found)
 -- `convert_rules` that is done leaves the frames
 converted-to :
     (x t : List ℕ) (c : Rules-call) → status-by x t c ≡ 0 → Converts-rules x t c →
-    Rules-converted-to (rule-frames (rules-of x) t) c
+    Converted-to (rule-frames (rules-of x) t) (c .answer .status) (c .left .frames)
 unfolding rules-answered rule-frames-left if-done
 converted-to x t c done h =
     record {

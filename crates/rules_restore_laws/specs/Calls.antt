@@ -1,18 +1,15 @@
 -- Both round trips by whole calls with a table of rules (document 02, "A rule table"):
 -- `convert_rules` and `restore_rules`, one on what the other left; and equal frames of two
 -- conversions. Each is a type, and its proof is in proofs/. These are definitions.
-use mathlib.Core.Bool.{false}
 use mathlib.Core.List.{List}
 use mathlib.Core.Path.{_≡_}
 use Prim.Native.Nat.{ℕ, _≤_}
 use lib.ListN.{length, take}
 use Rattle.answers.specs.Bytes.{Bytes}
 use Rattle.answers.specs.declared.Answer.{Answer}
-use Rattle.tables.specs.Buffers.{lengths, short-of}
-use Rattle.convert.specs.Paired.{Buffers}
-use Rattle.restore_laws.specs.Calls.{Restored-to}
+use Rattle.restore_laws.specs.Calls.{Restored-to, Room-for, Converted-to}
 use Rattle.rules.specs.Buffers.{all-needed}
-use Rattle.rules.specs.Rules.{Rule, rules-of, table-size}
+use Rattle.rules.specs.Rules.{rules-of, table-size}
 use Rattle.convert_rules.specs.Paired.{Rules-call, Rules-taken, Converts-rules}
 use Rattle.restore_rules.specs.RestoreRules.{Restore-rules-outcome}
 
@@ -31,21 +28,11 @@ Calls-injective =
     → Converts-rules x t c → Rules-taken c → Converts-rules x u d → Rules-taken d
     → take (length t) (c .left .frames) ≡ take (length u) (d .left .frames) → t ≡ u
 
--- the buffers that `convert_rules` is lent are long enough for these rules and so many frames
-pub record Rules-room-for (rs : List Rule) (n : ℕ) (lent : Buffers) : Type 0 where
-  pub tables : short-of (all-needed rs) (lengths (lent .tables)) ≡ false
-  pub found : n ≤ length (lent .found)
-  pub frames : n ≤ length (lent .frames)
-
--- `convert_rules` made this call: it is done, and its buffer begins with these frames
-pub record Rules-converted-to (gs : List ℕ) (c : Rules-call) : Type 0 where
-  pub done : Rules-taken c
-  pub frames : take (length gs) (c .left .frames) ≡ gs
-
 -- `restore_rules` and then `convert_rules` on the text that it left, with buffers long enough: for
 -- all that their contracts allow, the frames handed in come back
 unfoldable pub Calls-restored-converted : Type 0
 Calls-restored-converted =
     (x gs text text' : List ℕ) (r : Answer) → length x ≡ table-size → Restore-rules-outcome x gs text text' r
     → r .status ≡ 0 → (c : Rules-call) → Converts-rules x (take (length gs) text') c
-    → Rules-room-for (rules-of x) (length gs) (c .lent) → Rules-converted-to gs c
+    → Room-for (all-needed (rules-of x)) (length gs) (c .lent)
+    → Converted-to gs (c .answer .status) (c .left .frames)

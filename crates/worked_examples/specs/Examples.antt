@@ -71,7 +71,7 @@ use Rattle.restore_rules.specs.RestoreRules.{restore-rules-status, Restore-rule
 use Rattle.explain_rule.specs.ExplainRule.{numbered-pattern, explain-rule-status, Explain-rule-outcome}
 use Rattle.price_rules.specs.Promises.{Rules-priced}
 use Rattle.rules_one_laws.specs.Calls.{One-rule}
-use Rattle.rules_restore_laws.specs.Calls.{Rules-room-for}
+use Rattle.restore_laws.specs.Calls.{Room-for}
 use Rattle.rules_turn_laws.specs.Calls.{Table-turned}
 use Rattle.rules_turn_laws.specs.Promises.{turned-rules}
 use Rattle.report_lines.specs.Printed.{report-status}
@@ -308,7 +308,7 @@ Holds (both-turned-by-rules way x x' t first other) =
     Table-turned way x x' × Bytes t × Any-rules-search x t first × Rules-taken first
     × Any-rules-search x' (turned way t) other × Rules-taken other
 Holds (one-rule-is x w q) = One-rule x w q
-Holds (room-for-rules rs n b) = Rules-room-for rs n b
+Holds (room-for-rules rs n b) = Room-for (all-needed rs) n b
 Holds (priced-by-rules x t c) = Rules-priced x t c
 Holds (refuted wrong) = Holds wrong → ⊥
 

@@ -59,7 +59,7 @@ returns-2 c =
     rw (done past)
     record {
       answer = c .status-only2 .ensures;
-      table-left = c .before .write-bytes .ensures ∙ slot-put _ _ _ _ _ (room past);
+      table-left = c .before .write-block .ensures ∙ slot-put _ _ _ _ _ (room past);
     }
 
 pub edit-rule-spec : {M : Type 1} → statement M

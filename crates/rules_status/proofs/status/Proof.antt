@@ -57,33 +57,22 @@ claimed-twice-requires c κs =
     let past = c .before .before in
     (taken past, text-within _ (sym (past .before .text-status .ensures) ∙ past .if2 .left))
 
+-- past 7 what the rules claim decides
+module _ (c : tie.After-claimed-twice) where
+  abbrev past : tie.Else2
+  past = c .before .before .before
+
+  by-claims :
+      let a = start past .args in
+      measured-status (a .rules .now) (a .text .now) (a .lengths) (a .short) ≡ cond (c .claimed-twice .result) 12 0
+  by-claims =
+      rw (decided past, ← c .before .before .too-short .ensures, c .before .if3 .left, ← c .claimed-twice .ensures)
+
 returns-4 : tie.Need-returns-4
-returns-4 c =
-    let room = c .before .before in
-    let past = room .before .before in (
-      rw (
-        decided past,
-        ← room .before .too-short .ensures,
-        room .if3 .left,
-        ← c .before .claimed-twice .ensures,
-        c .if4 .taken,
-      ),
-      size past,
-    )
+returns-4 c = (rw (by-claims (c .before), c .if4 .taken), size (past (c .before)))
 
 returns-5 : tie.Need-returns-5
-returns-5 c =
-    let room = c .before .before in
-    let past = room .before .before in (
-      rw (
-        decided past,
-        ← room .before .too-short .ensures,
-        room .if3 .left,
-        ← c .before .claimed-twice .ensures,
-        c .if4 .left,
-      ),
-      size past,
-    )
+returns-5 c = (rw (by-claims (c .before), c .if4 .left), size (past (c .before)))
 
 pub status-spec : {M : Type 1} → statement M
 status-spec =
