@@ -24,6 +24,9 @@ ghost use Rattle.price_rules.specs.PriceRules.{Price-rules-outcome};
 ghost use Rattle.report.specs.Report.{Report-outcome};
 ghost use Rattle.restore.specs.Restore.{Restore-outcome};
 ghost use Rattle.restore_rules.specs.RestoreRules.{Restore-rules-outcome};
+ghost use Rattle.roles_calls.specs.Calls.{Convert-as-outcome, Restore-as-outcome};
+ghost use Rattle.roles_calls.specs.Calls.{Explain-as-outcome, Price-as-outcome};
+ghost use Rattle.roles_calls.specs.Calls.{Edit-as-outcome};
 ghost use Rattle.search_rules.specs.SearchRules.{Search-rules-outcome};
 ghost use Rattle.tables.specs.Buffers.{lent, left};
 ghost use Rattle.tables.specs.Prepare.{Prepare-outcome};
@@ -298,6 +301,118 @@ pub extern "C" fn edit_rule(
         (after rules) r ⌝ }
 {
     edit_rule::edit_rule(number, hold_offset, pattern, rules)
+}
+
+// The five calls that follow take a role: 0 draughtswoman, 1 mender, 2 minder. Where it may not do
+// the job, they answer 13 and zeros and change nothing.
+
+// Converts a text (chain) to frames by a table of rules, where the role may.
+#[no_mangle]
+pub extern "C" fn convert_as(
+    role: u32,
+    rules: &[u8; 2081],
+    text: &[u8],
+    order: &mut [i16],
+    delta2: &mut [u16],
+    delta1: &mut [u16],
+    delta3: &mut [u16],
+    found: &mut [u16],
+    frames: &mut [u16],
+) -> RulesAnswer
+    ensures { λ r. ⌜ Convert-as-outcome role (before rules) (before text)
+        (lent order delta2 delta1 delta3) (left order delta2 delta1 delta3)
+        (before found) (after found) (before frames) (after frames) r ⌝ }
+{
+    roles_calls::convert_as(
+        role,
+        rules,
+        text,
+        order,
+        delta2,
+        delta1,
+        delta3,
+        found,
+        frames,
+    )
+}
+
+// Puts the frames of a conversion by a table of rules back to the text (chain), where the role may.
+#[no_mangle]
+pub extern "C" fn restore_as(
+    role: u32,
+    rules: &[u8; 2081],
+    frames: &[u16],
+    text: &mut [u8],
+) -> Answer
+    ensures { λ r. ⌜ Restore-as-outcome role (before rules) (before frames) (before text)
+        (after text) r ⌝ }
+{
+    roles_calls::restore_as(role, rules, frames, text)
+}
+
+// Explains why a position of the text (place of the chain) has no hold of one rule, where the role
+// may.
+#[no_mangle]
+pub extern "C" fn explain_as(
+    role: u32,
+    number: u32,
+    position: u32,
+    rules: &[u8; 2081],
+    text: &[u8],
+    order: &mut [i16],
+    delta2: &mut [u16],
+    delta1: &mut [u16],
+    delta3: &mut [u16],
+) -> ExplainAnswer
+    ensures { λ r. ⌜ Explain-as-outcome role number position (before rules) (before text)
+        (lent order delta2 delta1 delta3) (left order delta2 delta1 delta3) r ⌝ }
+{
+    roles_calls::explain_as(
+        role,
+        number,
+        position,
+        rules,
+        text,
+        order,
+        delta2,
+        delta1,
+        delta3,
+    )
+}
+
+// Prices a text (chain) that is converted by a table of rules, where the role may.
+#[no_mangle]
+pub extern "C" fn price_as(
+    role: u32,
+    rules: &[u8; 2081],
+    text: &[u8],
+    order: &mut [i16],
+    delta2: &mut [u16],
+    delta1: &mut [u16],
+    delta3: &mut [u16],
+    found: &mut [u16],
+) -> PriceAnswer
+    ensures { λ r. ⌜ Price-as-outcome role (before rules) (before text)
+        (lent order delta2 delta1 delta3) (left order delta2 delta1 delta3)
+        (before found) (after found) r ⌝ }
+{
+    roles_calls::price_as(role, rules, text, order, delta2, delta1, delta3, found)
+}
+
+// Puts a new pattern (motif) and hold offset (hold place) in one rule of a table, where the role
+// may.
+#[no_mangle]
+pub extern "C" fn edit_as(
+    role: u32,
+    number: u32,
+    hold_offset: u32,
+    pattern: &[u8],
+    rules: &mut [u8; 2081],
+) -> Answer
+    ensures { λ r. ⌜ Edit-as-outcome role number «hold_offset» (before pattern) (before rules)
+        (after rules) r ⌝ }
+{
+    roles_calls::edit_as(role, number, hold_offset, pattern, rules)
 }
 
 // Writes what SEEK prints for the job of a file. It keeps the job, its tables and its buffers on

@@ -154,7 +154,7 @@ told-0 Listed = refl
 told-0 (Tried i) = refl
 told-0 (PassedOver from j k) = refl
 
-status-explained :
+pub status-explained :
     (s b : ℕ) (w t : List ℕ) {r : ExplainAnswer} → r ≡ explain-answer s b w t → r .answer .status ≡ s
 unfolding explain-answer if-done
 status-explained zero b w t e = rw e (told-0 (explanation-in b w t))

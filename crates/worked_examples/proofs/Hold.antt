@@ -2,7 +2,7 @@
 -- Each claim is computed; the longest jobs go by the laws of written files and of equal bytes.
 use mathlib.Core.Bool.{Bool, true, false, _&&_, and-false, true≢false, and-eq-true-iff}
 use mathlib.Core.List.{List, [], _∷_}
-use mathlib.Core.Path.{_≡_, refl, _∙_, ap}
+use mathlib.Core.Path.{_≡_, refl, sym, _∙_, ap}
 use Prim.Native.Nat.{ℕ, zero, suc, _+_, _*_, _%_, _≤_, _<_}
 use native.Mathlib.Nat.{mod-lt, suc-mul}
 use native.Mathlib.Omega.{arith}
@@ -71,6 +71,9 @@ use Rattle.rules_conversions.specs.Conversions.{is-conversion as is-conversion-
 use Rattle.restore_rules.specs.RestoreRules.{measured, restore-rules-status, restored-left as restored-by-rules-left}
 use Rattle.explain_rule.specs.ExplainRule.{explain-rule-status}
 use Rattle.rules_turn_laws.specs.Promises.{turned-rule, turned-rules}
+use Rattle.roles.specs.Promises.{Behind}
+use Rattle.roles.specs.Roles.{permitted, behind-role}
+use Rattle.roles.specs.declared.Job.the-variants.{Edit}
 use Rattle.report_lines.specs.Printed.{report-status, report-answer, refused-report}
 use Rattle.report.specs.Report.{done-report, seek-report}
 use Rattle.worked_examples.specs.Examples.{a, b, left-by-ac, bytes, shorthand-k-min, shorthand, Holds, examples, All, All-hold}
@@ -141,6 +144,25 @@ below-2 f g first second zero l = first
 below-2 f g first second (suc zero) l = second
 below-2 f g first second (suc (suc i)) l = absurd (omega (arith, l))
 
+-- a job that is permitted, done, and one that is not, refused
+may-edit : Behind 0 Edit (true ≡ true) (true ≡ true) (false ≡ true) 0
+unfolding permitted
+may-edit =
+    record {
+      as-without = λ y. ((λ o. o), (λ o. o));
+      refused = λ n. absurd (true≢false n);
+      told = λ o. ((λ e. absurd (omega (arith, e))), (λ n. absurd (true≢false n)));
+    }
+
+may-not-edit : Behind 1 Edit (true ≡ true) (false ≡ true) (true ≡ true) 13
+unfolding permitted
+may-not-edit =
+    record {
+      as-without = λ y. absurd (true≢false (sym y));
+      refused = λ n. ((λ o. o), (λ o. o));
+      told = λ o. ((λ e. refl), (λ n. refl));
+    }
+
 pub examples-hold : All-hold examples
 unfolding bytes Holds examples All All-hold shorthand-k-min shorthand Same-at
     if-done answered count-answer first-of job-refusals is-digit digit-value digit digits all-digits number
@@ -162,7 +184,7 @@ unfolding bytes Holds examples All All-hold shorthand-k-min shorthand Same-at
     no-answers all-told rules-answered search-refusals search-rules-status all-found-left
     marked rule-frames convert-rules-status rule-frames-left price-rules-answer
     restored-by-rules converts-again-by-rules is-conversion-by-rules measured restore-rules-status
-    restored-by-rules-left explain-rule-status turned-rule turned-rules all-bytes
+    restored-by-rules-left explain-rule-status turned-rule turned-rules all-bytes permitted behind-role
 examples-hold =
     (refl, (refl, (refl, tt)))
     then (refl, (refl, (refl, tt)))
@@ -250,4 +272,12 @@ examples-hold =
     then (λ o. apart (λ x. byte (x .delta2) 0) refl (o .tables))
     then (λ o. unequal refl (o .one)) then (λ o. true≢false (o .tables))
     then (λ o. apart (λ r. r .pence) refl (o .allowed .answer)) then tt)
+    then (refl, (refl, (refl, (refl, (refl, (refl, (refl, (refl, (refl, (refl, (refl, (refl, (refl, (refl, (refl, (refl, (refl, (refl, (refl, (refl, (refl, tt)))))))))))))))))))))
+    then (refl, (refl, (refl, (refl, (refl, (refl, (refl, (may-edit, (may-not-edit, (record { answer = refl; tables = refl; occurrences-left = refl; moves-and-holds-left = refl }, (record { answer = refl; tables = refl; occurrences-left = refl; moves-and-holds-left = refl }, (record { answer = refl; tables = refl; occurrences-left = refl; moves-and-holds-left = refl }, (record { answer = refl; tables = refl; occurrences-left = refl; moves-and-holds-left = refl }, (record { answer = refl; text-left = refl }, (record { answer = refl; text-left = refl }, (record { answer = refl; text-left = refl }, (record { answer = refl; text-left = refl }, (record { answer = refl; tables = refl }, (record { answer = refl; tables = refl }, (record { answer = refl; tables = refl }, (record { answer = refl; tables = refl }, (record { answer = refl; tables = refl; occurrences-left = refl }, (record { answer = refl; tables = refl; occurrences-left = refl }, (record { answer = refl; tables = refl; occurrences-left = refl }, (record { answer = refl; tables = refl; occurrences-left = refl }, (record { answer = refl; table-left = refl }, (record { answer = refl; table-left = refl }, (record { answer = refl; table-left = refl }, (record { answer = refl; table-left = refl }, tt)))))))))))))))))))))))))))))
+    then ((λ e. true≢false (sym e)) then unequal refl
+    then (λ o. true≢false (sym (o .as-without refl .1 refl))) then (λ o. true≢false (sym (o .refused refl .1 refl)))
+    then (λ o. true≢false (o .told refl .0 refl)) then (λ o. apart (λ x. byte (x .delta2) 0) refl (o .tables))
+    then (λ o. apart (λ l. byte l 0) refl (o .text-left)) then (λ o. apart (λ r. r .status) refl (o .answer))
+    then (λ o. apart (λ r. r .answer .status) refl (o .answer))
+    then (λ o. apart (λ r. r .answer .status) refl (o .answer)) then (λ o. apart (λ l. byte l 3) refl (o .table-left)) then tt)
     then tt

@@ -71,6 +71,12 @@ use Rattle.restore_rules.specs.RestoreRules.{restore-rules-status, Restore-rule
 use Rattle.explain_rule.specs.ExplainRule.{numbered-pattern, explain-rule-status, Explain-rule-outcome}
 use Rattle.price_rules.specs.Promises.{Rules-priced}
 use Rattle.rules_one_laws.specs.Calls.{One-rule}
+use Rattle.roles.specs.Promises.{Behind}
+use Rattle.roles.specs.Roles.{permitted, behind-role}
+use Rattle.roles.specs.declared.Job.{Job}
+use Rattle.roles.specs.declared.Job.the-variants.{Convert, Restore, Explain, Price, Edit}
+use Rattle.roles_calls.specs.Calls.{Convert-as-outcome, Restore-as-outcome, Explain-as-outcome}
+use Rattle.roles_calls.specs.Calls.{Price-as-outcome, Edit-as-outcome}
 use Rattle.restore_laws.specs.Calls.{Room-for}
 use Rattle.rules_turn_laws.specs.Calls.{Table-turned}
 use Rattle.rules_turn_laws.specs.Promises.{turned-rules}
@@ -175,6 +181,18 @@ pub data Claim : Type 0 where
   one-rule-is : (image w : List ℕ) → (q : ℕ) → Claim
   room-for-rules : (rules : List Rule) → (n : ℕ) → (lent : Buffers) → Claim
   priced-by-rules : (image t : List ℕ) → (call : Price-call) → Claim
+  permitted-is : (role : ℕ) → (job : Job) → (may : Bool) → Claim
+  behind-role-gives : (role : ℕ) → (job : Job) → (without status : ℕ) → Claim
+  stands-behind : (role : ℕ) → (job : Job) → (called without refused : Bool) → (status : ℕ) → Claim
+  converting-as-leaves :
+      (role : ℕ) → (image t : List ℕ) → (lent left : Tables) → (found listed frame framed : List ℕ) →
+      (given : RulesAnswer) → Claim
+  restoring-as-leaves : (role : ℕ) → (image frames text left : List ℕ) → (given : Answer) → Claim
+  explaining-as-leaves :
+      (role number position : ℕ) → (image t : List ℕ) → (lent left : Tables) → (given : ExplainAnswer) → Claim
+  pricing-as-leaves :
+      (role : ℕ) → (image t : List ℕ) → (lent left : Tables) → (found listed : List ℕ) → (given : PriceAnswer) → Claim
+  editing-as-leaves : (role number q : ℕ) → (w image edited : List ℕ) → (given : Answer) → Claim
   refuted : (wrong : Claim) → Claim
 
 -- the bytes of what is written in quotes: each character's code
@@ -310,6 +328,17 @@ Holds (both-turned-by-rules way x x' t first other) =
 Holds (one-rule-is x w q) = One-rule x w q
 Holds (room-for-rules rs n b) = Room-for (all-needed rs) n b
 Holds (priced-by-rules x t c) = Rules-priced x t c
+Holds (permitted-is role job may) = permitted role job ≡ may
+Holds (behind-role-gives role job without status) = behind-role role job without ≡ status
+Holds (stands-behind role job called without refused status) =
+    Behind role job (called ≡ true) (without ≡ true) (refused ≡ true) status
+Holds (converting-as-leaves role x t lent left found listed frame framed given) =
+    Convert-as-outcome role x t lent left found listed frame framed given
+Holds (restoring-as-leaves role x these text left given) = Restore-as-outcome role x these text left given
+Holds (explaining-as-leaves role number position x t lent left given) =
+    Explain-as-outcome role number position x t lent left given
+Holds (pricing-as-leaves role x t lent left found listed given) = Price-as-outcome role x t lent left found listed given
+Holds (editing-as-leaves role number q w x x' given) = Edit-as-outcome role number q w x x' given
 Holds (refuted wrong) = Holds wrong → ⊥
 
 -- a row: its number, up to 10 that of document 01, and what it claims
@@ -1481,6 +1510,85 @@ examples =
     ∷ one-rule-is (table a-and-c) (a ∷ []) 0
     ∷ room-for-rules three-rules 9 (buffers (lent (room 10 11 2048 8)) (replicate 9 9) (replicate 9 9))
     ∷ priced-by-rules (table ac-and-b) aac (priced-by-ac-and-b 59)
+    ∷ []))
+    -- Document 02, "Who may do what": roles are 0 draughtswoman, 1 mender, 2 minder. The
+    -- draughtswoman may do all, the mender all but edit, the minder only convert and explain; a
+    -- role above 2 may do nothing, also one that is 0, 1 or 2 in its last byte
+    ∷ row 52
+    (permitted-is 0 Convert true
+    ∷ permitted-is 0 Restore true
+    ∷ permitted-is 0 Explain true
+    ∷ permitted-is 0 Price true
+    ∷ permitted-is 0 Edit true
+    ∷ permitted-is 1 Convert true
+    ∷ permitted-is 1 Restore true
+    ∷ permitted-is 1 Explain true
+    ∷ permitted-is 1 Price true
+    ∷ permitted-is 1 Edit false
+    ∷ permitted-is 2 Convert true
+    ∷ permitted-is 2 Restore false
+    ∷ permitted-is 2 Explain true
+    ∷ permitted-is 2 Price false
+    ∷ permitted-is 2 Edit false
+    ∷ permitted-is 3 Convert false
+    ∷ permitted-is 3 Explain false
+    ∷ permitted-is 256 Edit false
+    ∷ permitted-is 257 Price false
+    ∷ permitted-is 258 Convert false
+    ∷ permitted-is 0xFFFFFFFF Convert false
+    ∷ [])
+    -- A permitted call answers exactly as without roles. One that is not permitted gives 13 before
+    -- every other number, whatever its table, and leaves its buffers and the table
+    ∷ row 53
+    (behind-role-gives 0 Edit 0 0
+    ∷ behind-role-gives 0 Edit 11 11
+    ∷ behind-role-gives 1 Edit 0 13
+    ∷ behind-role-gives 1 Edit 11 13
+    ∷ behind-role-gives 1 Price 12 12
+    ∷ behind-role-gives 2 Price 12 13
+    ∷ behind-role-gives 3 Convert 4 13
+    ∷ stands-behind 0 Edit true true false 0
+    ∷ stands-behind 1 Edit true false true 13
+    ∷ converting-as-leaves 2 (table a-and-c) cac lent-to-two left-by-two (replicate 4 9) (1 ∷ 0 ∷ 2 ∷ 9 ∷ [])
+    (replicate 4 9) (512 ∷ 256 ∷ 512 ∷ 9 ∷ []) (rules-answer 6 (told 1 3 1 5 0 ∷ told 2 3 1 5 0 ∷ []))
+    ∷ converting-as-leaves 2 (17 ∷ []) [] lent-to-two lent-to-two [] [] [] [] (rules-refused 11)
+    ∷ converting-as-leaves 3 (table a-and-c) cac lent-to-two lent-to-two (replicate 4 9) (replicate 4 9)
+    (replicate 4 9) (replicate 4 9) (rules-refused 13)
+    ∷ converting-as-leaves 3 (17 ∷ []) (replicate 16385 a) (lent no-room) (lent no-room) [] [] [] [] (rules-refused 13)
+    ∷ restoring-as-leaves 1 (table a-and-c) (512 ∷ 256 ∷ []) (1 ∷ 1 ∷ 1 ∷ []) (c ∷ a ∷ 1 ∷ []) (zeros-beside 0)
+    ∷ restoring-as-leaves 1 (table a-and-c) (768 ∷ []) (1 ∷ []) (1 ∷ []) (zeros-beside 9)
+    ∷ restoring-as-leaves 2 (table a-and-c) (512 ∷ 256 ∷ []) (1 ∷ 1 ∷ 1 ∷ []) (1 ∷ 1 ∷ 1 ∷ []) (zeros-beside 13)
+    ∷ restoring-as-leaves 2 (17 ∷ []) (257 ∷ []) [] [] (zeros-beside 13)
+    ∷ explaining-as-leaves 2 2 2 (table a-and-c) cac lent-to-one left-by-one (explain-answered 0 1 0 0 0)
+    ∷ explaining-as-leaves 2 3 2 (table a-and-c) cac lent-to-one lent-to-one (explain-answered 11 0 0 0 0)
+    ∷ explaining-as-leaves 3 2 2 (table a-and-c) cac lent-to-one lent-to-one (explain-answered 13 0 0 0 0)
+    ∷ explaining-as-leaves 3 3 9 (17 ∷ []) cac (lent no-room) (lent no-room) (explain-answered 13 0 0 0 0)
+    ∷ pricing-as-leaves 1 (table a-and-c) cac lent-to-two left-by-two (replicate 4 9) (1 ∷ 0 ∷ 2 ∷ 9 ∷ [])
+    (price-answered 0 138)
+    ∷ pricing-as-leaves 1 (table a-twice) (a ∷ []) lent-to-two lent-to-two (9 ∷ []) (9 ∷ []) (price-answered 12 0)
+    ∷ pricing-as-leaves 2 (table a-and-c) cac lent-to-two lent-to-two (replicate 4 9) (replicate 4 9)
+    (price-answered 13 0)
+    ∷ pricing-as-leaves 2 (17 ∷ []) cac (lent no-room) (lent no-room) [] [] (price-answered 13 0)
+    ∷ editing-as-leaves 0 2 2 aac (table a-and-c) (table (rule (a ∷ []) 0 ∷ rule aac 2 ∷ [])) (zeros-beside 0)
+    ∷ editing-as-leaves 0 3 2 aac (table a-and-c) (table a-and-c) (zeros-beside 11)
+    ∷ editing-as-leaves 1 2 2 aac (table a-and-c) (table a-and-c) (zeros-beside 13)
+    ∷ editing-as-leaves 2 0 0 [] (17 ∷ []) (17 ∷ []) (zeros-beside 13)
+    ∷ [])
+    -- At least one wrong claim of each kind of a role, in the order of the kinds; of what it is to
+    -- stand behind a role one for each part
+    ∷ row 54
+    (map refuted
+    (permitted-is 1 Edit true
+    ∷ behind-role-gives 2 Price 11 11
+    ∷ stands-behind 0 Edit false true true 0
+    ∷ stands-behind 1 Edit false true true 13
+    ∷ stands-behind 0 Edit true true true 13
+    ∷ converting-as-leaves 3 (table a-and-c) [] lent-to-two left-by-two [] [] [] [] (rules-refused 13)
+    ∷ restoring-as-leaves 2 (table a-and-c) (512 ∷ []) (1 ∷ []) (c ∷ []) (zeros-beside 13)
+    ∷ restoring-as-leaves 2 (17 ∷ []) (257 ∷ []) [] [] (zeros-beside 11)
+    ∷ explaining-as-leaves 3 2 0 (table a-and-c) (c ∷ []) lent-to-one lent-to-one (explain-answered 0 0 0 0 0)
+    ∷ pricing-as-leaves 2 (table a-and-c) [] lent-to-two lent-to-two (9 ∷ []) (9 ∷ []) (price-answered 0 0)
+    ∷ editing-as-leaves 1 1 0 (c ∷ []) (1 ∷ 1 ∷ 0 ∷ a ∷ []) (1 ∷ 1 ∷ 0 ∷ c ∷ []) (zeros-beside 13)
     ∷ []))
     ∷ []
 

@@ -1,0 +1,35 @@
+-- `roles_calls::price_as` meets its contract: where the role is refused, so is the call, and else it
+-- is `price_rules`. By the status behind a role. Assumes nothing.
+use borrow.Author.Needs.{needs}
+use Rattle.price_rules.proofs.Priced.{refused}
+use Rattle.roles.proofs.Behind.{passed, stopped}
+use Rattle.roles.specs.declared.Job.the-variants.{Price}
+use Rattle.roles_calls.proofs.price_as.Statement.{statement}
+use Rattle.roles_calls.proofs.price_as.Tie as tie
+
+returns : tie.Need-returns
+returns c =
+    let some = c .before .if1 .taken in
+    rw (c .status-only .ensures, ← stopped _ Price _ (c .before .before .role-status .ensures) some)
+    (refused _ some)
+
+returns-2 : tie.Need-returns-2
+returns-2 c =
+    let at-end = c .before .before .before .before .before .before .before .before .before in
+    let past = at-end .before .before .before .before .before .before in
+    rw (passed _ Price _ (past .before .role-status .ensures) (past .if1 .left)) (at-end .price-rules .ensures)
+
+pub price-as-spec : {M : Type 1} → statement M
+price-as-spec =
+    tie.close
+    (tie.spec
+    (λ c κs. search needs)
+    (λ c κs. search needs)
+    returns
+    (λ c κs. search needs)
+    (λ c. search needs)
+    (λ c. search needs)
+    (λ c. search needs)
+    (λ c. search needs)
+    (λ c. search needs)
+    returns-2)

@@ -1,0 +1,3 @@
+mod Numbers
+pub mod Promises
+pub mod Paired
