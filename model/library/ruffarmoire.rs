@@ -1,7 +1,15 @@
-//! The seventeen calls of the Rattle library, as `rt staticlib ruffarmoire` builds it. The calls take
-//! any arguments, so the safe functions here only turn slices into pointers and lengths;
-//! `explained` and `explained_by_rule` also read the answers of `explain` and `explain_rule`. `Rules`
-//! is a table of rules, for the calls that take one.
+//! The twenty-two calls of the Rattle library, as `rt staticlib ruffarmoire` builds it. The calls
+//! take any arguments, so the safe functions here only turn slices into pointers and lengths;
+//! `explained`, `explained_by_rule` and `explained_as` also read the answers of `explain`,
+//! `explain_rule` and `explain_as`. `Rules` is a table of rules, for the calls that take one.
+//!
+//! Five calls ask who calls: `convert_as`, `restore_as`, `explain_as`, `price_as` and `edit_as`
+//! take the number of a role first, as `Role::Mender.number()`. A call that the role may not make
+//! is refused by 13 and changes nothing; any other is the call without roles.
+//!
+//! **What a host must do.** The library decides what a role may do, not who has it: it believes the
+//! number. A host has to make sure who says which role he has. And it keeps the calls without
+//! roles, `edit_rule` above all, and the bytes of the table to itself.
 
 // A test program calls only what it tests.
 #![allow(dead_code)]
@@ -18,6 +26,7 @@ use ruffarmoire_model::answers::{
     WriteAnswer,
 };
 use ruffarmoire_model::explain::{Explained, Unexplained};
+pub use ruffarmoire_model::roles::Role;
 use ruffarmoire_model::rules::{slot, TableBytes, TABLE};
 use ruffarmoire_model::MAX_RULES;
 
@@ -243,6 +252,77 @@ mod foreign {
         ) -> ExplainAnswer;
 
         pub fn edit_rule(
+            number: u32,
+            hold_offset: u32,
+            pattern: *const u8,
+            pattern_length: usize,
+            rules: *mut TableBytes,
+        ) -> Answer;
+
+        pub fn convert_as(
+            role: u32,
+            rules: *const TableBytes,
+            text: *const u8,
+            text_length: usize,
+            order: *mut i16,
+            order_length: usize,
+            delta2: *mut u16,
+            delta2_length: usize,
+            delta1: *mut u16,
+            delta1_length: usize,
+            delta3: *mut u16,
+            delta3_length: usize,
+            found: *mut u16,
+            found_length: usize,
+            frames: *mut u16,
+            frames_length: usize,
+        ) -> RulesAnswer;
+
+        pub fn restore_as(
+            role: u32,
+            rules: *const TableBytes,
+            frames: *const u16,
+            frames_length: usize,
+            text: *mut u8,
+            text_length: usize,
+        ) -> Answer;
+
+        pub fn explain_as(
+            role: u32,
+            number: u32,
+            position: u32,
+            rules: *const TableBytes,
+            text: *const u8,
+            text_length: usize,
+            order: *mut i16,
+            order_length: usize,
+            delta2: *mut u16,
+            delta2_length: usize,
+            delta1: *mut u16,
+            delta1_length: usize,
+            delta3: *mut u16,
+            delta3_length: usize,
+        ) -> ExplainAnswer;
+
+        pub fn price_as(
+            role: u32,
+            rules: *const TableBytes,
+            text: *const u8,
+            text_length: usize,
+            order: *mut i16,
+            order_length: usize,
+            delta2: *mut u16,
+            delta2_length: usize,
+            delta1: *mut u16,
+            delta1_length: usize,
+            delta3: *mut u16,
+            delta3_length: usize,
+            found: *mut u16,
+            found_length: usize,
+        ) -> PriceAnswer;
+
+        pub fn edit_as(
+            role: u32,
             number: u32,
             hold_offset: u32,
             pattern: *const u8,
@@ -671,6 +751,178 @@ pub fn edit_rule(number: u32, hold_offset: u32, pattern: &[u8], rules: &mut Tabl
     unsafe { foreign::edit_rule(number, hold_offset, pattern.as_ptr(), pattern.len(), rules) }
 }
 
+/// Converts by a table as `convert_rules` does, for a role by its number; or is refused by 13.
+#[allow(clippy::too_many_arguments)]
+pub fn convert_as(
+    role: u32,
+    rules: &TableBytes,
+    text: &[u8],
+    order: &mut [i16],
+    delta2: &mut [u16],
+    delta1: &mut [u16],
+    delta3: &mut [u16],
+    found: &mut [u16],
+    frames: &mut [u16],
+) -> RulesAnswer {
+    // SAFETY: each pointer and length is that of a slice that stays borrowed during the call, and
+    // the table is borrowed too.
+    unsafe {
+        foreign::convert_as(
+            role,
+            rules,
+            text.as_ptr(),
+            text.len(),
+            order.as_mut_ptr(),
+            order.len(),
+            delta2.as_mut_ptr(),
+            delta2.len(),
+            delta1.as_mut_ptr(),
+            delta1.len(),
+            delta3.as_mut_ptr(),
+            delta3.len(),
+            found.as_mut_ptr(),
+            found.len(),
+            frames.as_mut_ptr(),
+            frames.len(),
+        )
+    }
+}
+
+/// Restores by a table as `restore_rules` does, for a role by its number; or is refused by 13.
+pub fn restore_as(role: u32, rules: &TableBytes, frames: &[u16], text: &mut [u8]) -> Answer {
+    // SAFETY: each pointer and length is that of a slice that stays borrowed during the call, and
+    // the table is borrowed too.
+    unsafe {
+        foreign::restore_as(
+            role,
+            rules,
+            frames.as_ptr(),
+            frames.len(),
+            text.as_mut_ptr(),
+            text.len(),
+        )
+    }
+}
+
+/// Explains a position as `explain_rule` does, for a role by its number; or is refused by 13.
+#[allow(clippy::too_many_arguments)]
+pub fn explain_as(
+    role: u32,
+    number: u32,
+    position: u32,
+    rules: &TableBytes,
+    text: &[u8],
+    order: &mut [i16],
+    delta2: &mut [u16],
+    delta1: &mut [u16],
+    delta3: &mut [u16],
+) -> ExplainAnswer {
+    // SAFETY: each pointer and length is that of a slice that stays borrowed during the call, and
+    // the table is borrowed too.
+    unsafe {
+        foreign::explain_as(
+            role,
+            number,
+            position,
+            rules,
+            text.as_ptr(),
+            text.len(),
+            order.as_mut_ptr(),
+            order.len(),
+            delta2.as_mut_ptr(),
+            delta2.len(),
+            delta1.as_mut_ptr(),
+            delta1.len(),
+            delta3.as_mut_ptr(),
+            delta3.len(),
+        )
+    }
+}
+
+/// Explains a position as `explain_as` does, told as `explained` tells it.
+#[allow(clippy::too_many_arguments)]
+pub fn explained_as(
+    role: Role,
+    number: u32,
+    position: u32,
+    rules: &TableBytes,
+    text: &[u8],
+    order: &mut [i16],
+    delta2: &mut [u16],
+    delta1: &mut [u16],
+    delta3: &mut [u16],
+) -> Result<Explained, Unexplained> {
+    let answer = explain_as(
+        role.number(),
+        number,
+        position,
+        rules,
+        text,
+        order,
+        delta2,
+        delta1,
+        delta3,
+    );
+    Explained::told(position, text.len(), answer)
+}
+
+/// Prices by a table as `price_rules` does, for a role by its number; or is refused by 13.
+#[allow(clippy::too_many_arguments)]
+pub fn price_as(
+    role: u32,
+    rules: &TableBytes,
+    text: &[u8],
+    order: &mut [i16],
+    delta2: &mut [u16],
+    delta1: &mut [u16],
+    delta3: &mut [u16],
+    found: &mut [u16],
+) -> PriceAnswer {
+    // SAFETY: each pointer and length is that of a slice that stays borrowed during the call, and
+    // the table is borrowed too.
+    unsafe {
+        foreign::price_as(
+            role,
+            rules,
+            text.as_ptr(),
+            text.len(),
+            order.as_mut_ptr(),
+            order.len(),
+            delta2.as_mut_ptr(),
+            delta2.len(),
+            delta1.as_mut_ptr(),
+            delta1.len(),
+            delta3.as_mut_ptr(),
+            delta3.len(),
+            found.as_mut_ptr(),
+            found.len(),
+        )
+    }
+}
+
+/// Edits a rule as `edit_rule` does, for a role by its number; or is refused by 13.
+/// `Rules::edit_as` does the same.
+pub fn edit_as(
+    role: u32,
+    number: u32,
+    hold_offset: u32,
+    pattern: &[u8],
+    rules: &mut TableBytes,
+) -> Answer {
+    // SAFETY: each pointer and length is that of a slice that stays borrowed during the call, and
+    // the table is borrowed too.
+    unsafe {
+        foreign::edit_as(
+            role,
+            number,
+            hold_offset,
+            pattern.as_ptr(),
+            pattern.len(),
+            rules,
+        )
+    }
+}
+
 /// A table of 1 to 16 rules (each a motif and a hold place). `&rules` goes wherever a call takes a table.
 #[derive(Clone, Copy, Debug, PartialEq, Eq)]
 pub struct Rules(TableBytes);
@@ -698,6 +950,21 @@ impl Rules {
     /// the table is as it was.
     pub fn edit(&mut self, number: u32, hold_offset: u32, pattern: &[u8]) -> Result<(), u32> {
         match edit_rule(number, hold_offset, pattern, &mut self.0).status {
+            0 => Ok(()),
+            status => Err(status),
+        }
+    }
+
+    /// Puts a new pattern and hold offset in one rule as `edit` does, for a role; or gives 13 where
+    /// the role may not.
+    pub fn edit_as(
+        &mut self,
+        role: Role,
+        number: u32,
+        hold_offset: u32,
+        pattern: &[u8],
+    ) -> Result<(), u32> {
+        match edit_as(role.number(), number, hold_offset, pattern, &mut self.0).status {
             0 => Ok(()),
             status => Err(status),
         }

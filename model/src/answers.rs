@@ -29,6 +29,8 @@ pub enum Refusal {
     RuleNumber,
     /// 12: two rules that claim the same byte of the text.
     ClaimedTwice,
+    /// 13: a role above 2, or a task that is not permitted to the role.
+    NotPermitted,
 }
 
 impl Refusal {
@@ -47,6 +49,7 @@ impl Refusal {
             Refusal::Position => 10,
             Refusal::RuleNumber => 11,
             Refusal::ClaimedTwice => 12,
+            Refusal::NotPermitted => 13,
         }
     }
 }

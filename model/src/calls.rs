@@ -371,6 +371,15 @@ pub struct RestoreOutcome {
     pub text: Vec<u8>,
 }
 
+impl From<Refusal> for RestoreOutcome {
+    fn from(refusal: Refusal) -> RestoreOutcome {
+        RestoreOutcome {
+            answer: refusal.into(),
+            ..RestoreOutcome::default()
+        }
+    }
+}
+
 /// Restores the text that converts to these frames into a buffer.
 pub fn restore(hold: u32, pattern: &[u8], frames: &[u16], text_length: usize) -> RestoreOutcome {
     match try_restore(hold, pattern, frames, text_length) {
@@ -378,10 +387,7 @@ pub fn restore(hold: u32, pattern: &[u8], frames: &[u16], text_length: usize) ->
             answer: Answer::default(),
             text,
         },
-        Err(refusal) => RestoreOutcome {
-            answer: refusal.into(),
-            ..RestoreOutcome::default()
-        },
+        Err(refusal) => refusal.into(),
     }
 }
 
@@ -406,6 +412,15 @@ pub struct PriceOutcome {
     pub left: Outcome,
 }
 
+impl From<Refusal> for PriceOutcome {
+    fn from(refusal: Refusal) -> PriceOutcome {
+        PriceOutcome {
+            answer: refusal.into(),
+            left: refusal.into(),
+        }
+    }
+}
+
 /// Prices a job: its text with the frames that it converts to.
 pub fn price(
     hold: u32,
@@ -414,13 +429,7 @@ pub fn price(
     lengths: TableLengths,
     occurrences_length: usize,
 ) -> PriceOutcome {
-    match try_price(hold, pattern, text, lengths, occurrences_length) {
-        Ok(outcome) => outcome,
-        Err(refusal) => PriceOutcome {
-            answer: refusal.into(),
-            left: refusal.into(),
-        },
-    }
+    try_price(hold, pattern, text, lengths, occurrences_length).unwrap_or_else(PriceOutcome::from)
 }
 
 fn try_price(
@@ -454,6 +463,15 @@ pub struct ExplainOutcome {
     pub left: Outcome,
 }
 
+impl From<Refusal> for ExplainOutcome {
+    fn from(refusal: Refusal) -> ExplainOutcome {
+        ExplainOutcome {
+            answer: refusal.into(),
+            left: refusal.into(),
+        }
+    }
+}
+
 /// Explains a position of the text: why it is an occurrence or is none.
 pub fn explain(
     position: u32,
@@ -461,13 +479,7 @@ pub fn explain(
     text: &[u8],
     lengths: TableLengths,
 ) -> ExplainOutcome {
-    match try_explain(position, pattern, text, lengths) {
-        Ok(outcome) => outcome,
-        Err(refusal) => ExplainOutcome {
-            answer: refusal.into(),
-            left: refusal.into(),
-        },
-    }
+    try_explain(position, pattern, text, lengths).unwrap_or_else(ExplainOutcome::from)
 }
 
 fn try_explain(

@@ -39,12 +39,12 @@ pub struct RulesOutcome {
     pub left: Outcome,
 }
 
-impl From<Result<RulesOutcome, Refusal>> for RulesOutcome {
-    fn from(result: Result<RulesOutcome, Refusal>) -> RulesOutcome {
-        result.unwrap_or_else(|refusal| RulesOutcome {
+impl From<Refusal> for RulesOutcome {
+    fn from(refusal: Refusal) -> RulesOutcome {
+        RulesOutcome {
             answer: refusal.into(),
             left: refusal.into(),
-        })
+        }
     }
 }
 
@@ -55,7 +55,8 @@ pub fn search_rules(
     lengths: TableLengths,
     occurrences_length: usize,
 ) -> RulesOutcome {
-    try_search(table, text, lengths, occurrences_length, text.len()).into()
+    try_search(table, text, lengths, occurrences_length, text.len())
+        .unwrap_or_else(RulesOutcome::from)
 }
 
 /// Searches with all rules and converts nothing; the buffer for frames is tested with the others. A
@@ -106,7 +107,8 @@ pub fn convert_rules(
     occurrences_length: usize,
     frames_length: usize,
 ) -> RulesOutcome {
-    try_convert(table, text, lengths, occurrences_length, frames_length).into()
+    try_convert(table, text, lengths, occurrences_length, frames_length)
+        .unwrap_or_else(RulesOutcome::from)
 }
 
 fn try_convert(
@@ -129,13 +131,7 @@ pub fn price_rules(
     lengths: TableLengths,
     occurrences_length: usize,
 ) -> PriceOutcome {
-    match try_price(table, text, lengths, occurrences_length) {
-        Ok(outcome) => outcome,
-        Err(refusal) => PriceOutcome {
-            answer: refusal.into(),
-            left: refusal.into(),
-        },
-    }
+    try_price(table, text, lengths, occurrences_length).unwrap_or_else(PriceOutcome::from)
 }
 
 fn try_price(
@@ -162,10 +158,7 @@ pub fn restore_rules(table: &TableBytes, frames: &[u16], text_length: usize) -> 
             answer: Answer::default(),
             text,
         },
-        Err(refusal) => RestoreOutcome {
-            answer: refusal.into(),
-            ..RestoreOutcome::default()
-        },
+        Err(refusal) => refusal.into(),
     }
 }
 
@@ -184,13 +177,7 @@ pub fn explain_rule(
     text: &[u8],
     lengths: TableLengths,
 ) -> ExplainOutcome {
-    match try_explain(number, position, table, text, lengths) {
-        Ok(outcome) => outcome,
-        Err(refusal) => ExplainOutcome {
-            answer: refusal.into(),
-            left: refusal.into(),
-        },
-    }
+    try_explain(number, position, table, text, lengths).unwrap_or_else(ExplainOutcome::from)
 }
 
 fn try_explain(
@@ -217,6 +204,16 @@ pub struct EditOutcome {
     pub table: TableBytes,
 }
 
+impl EditOutcome {
+    /// What is left of a refused edit: the table as it was.
+    pub(crate) fn refused(refusal: Refusal, table: &TableBytes) -> EditOutcome {
+        EditOutcome {
+            answer: refusal.into(),
+            table: *table,
+        }
+    }
+}
+
 /// Puts a new pattern and hold offset in one rule of a table.
 pub fn edit_rule(number: u32, hold: u32, pattern: &[u8], table: &TableBytes) -> EditOutcome {
     match try_edit(number, hold, pattern, table) {
@@ -224,10 +221,7 @@ pub fn edit_rule(number: u32, hold: u32, pattern: &[u8], table: &TableBytes) -> 
             answer: Answer::default(),
             table,
         },
-        Err(refusal) => EditOutcome {
-            answer: refusal.into(),
-            table: *table,
-        },
+        Err(refusal) => EditOutcome::refused(refusal, table),
     }
 }
 

@@ -14,6 +14,7 @@ use common::prepare_suite::PrepareCalls;
 use common::price_suite::PriceCalls;
 use common::report_suite::ReportCalls;
 use common::restore_suite::RestoreCalls;
+use common::roles_suite::RoleCalls;
 use common::rules_suite::RulesCalls;
 use common::searches;
 use common::table_buffers::{entries, LentTables};
@@ -229,6 +230,76 @@ impl RulesCalls for Baseline {
     }
 }
 
+impl RoleCalls for Baseline {
+    fn convert_as(
+        role: u32,
+        rules: &TableBytes,
+        text: &[u8],
+        tables: LentTables,
+        found: &mut [u16],
+        frames: &mut [u16],
+    ) -> RulesAnswer {
+        let LentTables {
+            order,
+            delta2,
+            delta1,
+            delta3,
+        } = tables;
+        baseline::roles::convert_as(
+            role, rules, text, order, delta2, delta1, delta3, found, frames,
+        )
+    }
+
+    fn restore_as(role: u32, rules: &TableBytes, frames: &[u16], text: &mut [u8]) -> Answer {
+        baseline::roles::restore_as(role, rules, frames, text)
+    }
+
+    fn explain_as(
+        role: u32,
+        number: u32,
+        position: u32,
+        rules: &TableBytes,
+        text: &[u8],
+        tables: LentTables,
+    ) -> ExplainAnswer {
+        let LentTables {
+            order,
+            delta2,
+            delta1,
+            delta3,
+        } = tables;
+        baseline::roles::explain_as(
+            role, number, position, rules, text, order, delta2, delta1, delta3,
+        )
+    }
+
+    fn price_as(
+        role: u32,
+        rules: &TableBytes,
+        text: &[u8],
+        tables: LentTables,
+        found: &mut [u16],
+    ) -> PriceAnswer {
+        let LentTables {
+            order,
+            delta2,
+            delta1,
+            delta3,
+        } = tables;
+        baseline::roles::price_as(role, rules, text, order, delta2, delta1, delta3, found)
+    }
+
+    fn edit_as(
+        role: u32,
+        number: u32,
+        hold: u32,
+        pattern: &[u8],
+        rules: &mut TableBytes,
+    ) -> Answer {
+        baseline::roles::edit_as(role, number, hold, pattern, rules)
+    }
+}
+
 mod job {
     job_suite!(crate::Baseline);
 }
@@ -289,6 +360,10 @@ mod explain_rule {
 
 mod edit_rule {
     edit_rule_suite!(crate::Baseline);
+}
+
+mod roles {
+    roles_suite!(crate::Baseline);
 }
 
 /// What `memmem` and the plain scan find.

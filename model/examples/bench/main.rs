@@ -6,10 +6,10 @@
 //!     cargo run --release --example bench -- search program    (only these parts)
 //!
 //! All that is set side by side is timed in the same run, turn by turn, so that a machine that is
-//! slow for a while is slow for all. Medians are printed, and their ratios. Times are those of the
-//! thread's processor; for programs, of the clock. Buffers are the caller's, used again from call to
-//! call and not cleared between. Before anything is timed, it is seen to give the same result as
-//! what it is compared with.
+//! slow for a while is slow for all. Medians are printed, and their ratios; of two calls that
+//! hardly differ, the difference. Times are those of the thread's processor; for programs, of the
+//! clock. Buffers are the caller's, used again from call to call and not cleared between. Before
+//! anything is timed, it is seen to give the same result as what it is compared with.
 
 #[path = "../../library/ruffarmoire.rs"]
 mod library;
@@ -24,6 +24,7 @@ mod prepare;
 mod price;
 mod program;
 mod restore;
+mod roles;
 mod rules;
 mod search;
 mod table_buffers;
@@ -31,7 +32,7 @@ mod timing;
 mod turn;
 
 /// The parts, in the order in which they run.
-const PARTS: [(&str, fn()); 10] = [
+const PARTS: [(&str, fn()); 11] = [
     ("calls", calls::run),
     ("turn", turn::run),
     ("restore", restore::run),
@@ -40,6 +41,7 @@ const PARTS: [(&str, fn()); 10] = [
     ("search", search::run),
     ("explain", explain::run),
     ("rules", rules::run),
+    ("roles", roles::run),
     ("program", program::run),
     ("comparisons", comparisons::run),
 ];

@@ -101,10 +101,10 @@ const DIFFERENCE_SAMPLE: f64 = 2e-4;
 /// The time that all such samples of a row take, in seconds, where that is enough for a few turns.
 const DIFFERENCES: f64 = 1.2;
 
-/// What a call of the first of each pair takes beyond a call of the second, in microseconds: the mean
-/// over the turns, without the slowest tenth of them. All are timed in each turn, in an order that
-/// changes, and each is run once right before its sample, so that what ran before does not count.
-pub fn differences<const N: usize>(mut pairs: [[Timed; 2]; N]) -> [f64; N] {
+/// The seconds that each of some pairs takes, turn by turn. All are timed in each turn, in an order
+/// that changes, and each is run once right before its sample, so that what ran before does not
+/// count.
+fn turns_of<const N: usize>(pairs: &mut [[Timed; 2]; N]) -> Vec<[[f64; 2]; N]> {
     let first: [f64; N] = std::array::from_fn(|which| {
         pairs[which][0].run(1);
         pairs[which][0].seconds(1)
@@ -128,6 +128,22 @@ pub fn differences<const N: usize>(mut pairs: [[Timed; 2]; N]) -> [f64; N] {
         }
         samples.push(taken);
     }
+    samples
+}
+
+/// What a call of the first takes beyond a call of the second, in microseconds: the median over the
+/// turns.
+pub fn median_difference(pair: [Timed; 2]) -> f64 {
+    let mut pairs = [pair];
+    let samples = turns_of(&mut pairs);
+    let mut beyond: Vec<f64> = samples.iter().map(|[[one, other]]| one - other).collect();
+    median(&mut beyond) * 1e6 / pairs[0][0].calls as f64
+}
+
+/// What a call of the first of each pair takes beyond a call of the second, in microseconds: the
+/// mean over the turns, without the slowest tenth of them.
+pub fn differences<const N: usize>(mut pairs: [[Timed; 2]; N]) -> [f64; N] {
+    let mut samples = turns_of(&mut pairs);
     let whole = |taken: &[[f64; 2]; N]| taken.iter().flatten().sum::<f64>();
     samples.sort_by(|a, b| whole(a).total_cmp(&whole(b)));
     let kept = &samples[..(samples.len() * 9).div_ceil(10)];

@@ -46,6 +46,8 @@ pub mod restore_rules_suite;
 #[macro_use]
 pub mod restore_suite;
 #[macro_use]
+pub mod roles_suite;
+#[macro_use]
 pub mod rules_suite;
 #[macro_use]
 pub mod turn_suite;

@@ -17,6 +17,7 @@ use crate::common::prepare_suite::PrepareCalls;
 use crate::common::price_suite::PriceCalls;
 use crate::common::report_suite::ReportCalls;
 use crate::common::restore_suite::RestoreCalls;
+use crate::common::roles_suite::RoleCalls;
 use crate::common::rules_suite::RulesCalls;
 use crate::common::table_buffers::LentTables;
 use crate::common::turn_suite::TurnCalls;
@@ -206,5 +207,75 @@ impl RulesCalls for Library {
 
     fn edit_rule(number: u32, hold: u32, pattern: &[u8], rules: &mut TableBytes) -> Answer {
         calls::edit_rule(number, hold, pattern, rules)
+    }
+}
+
+impl RoleCalls for Library {
+    fn convert_as(
+        role: u32,
+        rules: &TableBytes,
+        text: &[u8],
+        tables: LentTables,
+        found: &mut [u16],
+        frames: &mut [u16],
+    ) -> RulesAnswer {
+        let LentTables {
+            order,
+            delta2,
+            delta1,
+            delta3,
+        } = tables;
+        calls::convert_as(
+            role, rules, text, order, delta2, delta1, delta3, found, frames,
+        )
+    }
+
+    fn restore_as(role: u32, rules: &TableBytes, frames: &[u16], text: &mut [u8]) -> Answer {
+        calls::restore_as(role, rules, frames, text)
+    }
+
+    fn explain_as(
+        role: u32,
+        number: u32,
+        position: u32,
+        rules: &TableBytes,
+        text: &[u8],
+        tables: LentTables,
+    ) -> ExplainAnswer {
+        let LentTables {
+            order,
+            delta2,
+            delta1,
+            delta3,
+        } = tables;
+        calls::explain_as(
+            role, number, position, rules, text, order, delta2, delta1, delta3,
+        )
+    }
+
+    fn price_as(
+        role: u32,
+        rules: &TableBytes,
+        text: &[u8],
+        tables: LentTables,
+        found: &mut [u16],
+    ) -> PriceAnswer {
+        let LentTables {
+            order,
+            delta2,
+            delta1,
+            delta3,
+        } = tables;
+        calls::price_as(role, rules, text, order, delta2, delta1, delta3, found)
+    }
+
+    fn edit_as(
+        role: u32,
+        number: u32,
+        hold: u32,
+        pattern: &[u8],
+        rules: &mut TableBytes,
+    ) -> Answer {
+        calls::edit_as(role, number, hold, pattern, rules)
     }
 }

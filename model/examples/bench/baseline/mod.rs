@@ -9,6 +9,7 @@ pub mod matcher;
 pub mod price;
 pub mod report;
 pub mod restore;
+pub mod roles;
 pub mod rules;
 pub mod tables;
 pub mod turn;
