@@ -51,7 +51,7 @@ unfolding First-refusal behind-role first-of
 first-refusal role job rs = refl
 
 -- where a call's own numbers are others, 13 tells that a job is not permitted
-pub told-by-13 : (role : ℕ) (job : Job) (s : ℕ) → s < 13 → (behind-role role job s ≡ 13) ↔ (permitted role job ≡ false)
+told-by-13 : (role : ℕ) (job : Job) (s : ℕ) → s < 13 → (behind-role role job s ≡ 13) ↔ (permitted role job ≡ false)
 told-by-13 role job s l = (
   (λ e.
       ⊎-elim (λ y. absurd (omega (arith, l, rw (behind-permitted role job s y) at e))) (λ n. n)
