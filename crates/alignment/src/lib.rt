@@ -1,5 +1,7 @@
 // One alignment: how many of its comparisons agree, its shift as the tables have it, and how the
 // pattern is laid after it.
+#![tactic(auto)]
+
 ghost use Rattle.std.specs.Prelude.{true, ◌≡◌, ◌+◌, ◌-◌, ◌≤◌, ◌<◌, length, get_or};
 ghost use Rattle.answers.specs.Refusals.{longest_pattern};
 ghost use Rattle.tables.specs.Buffers.{PatternTaken};

@@ -1,5 +1,7 @@
 // What every call answers, beside what a call adds of its own, and the refusals that whoever drew
 // the job can cause.
+#![tactic(auto)]
+
 ghost use Rattle.std.specs.Prelude.{◌≡◌, [], ◌∷◌};
 ghost use Rattle.answers.specs.Answers.{status_only, prepared, searched, converted, counted};
 ghost use Rattle.answers.specs.Refusals.{first_of, text_refusal, rule_refusals, job_refusals};

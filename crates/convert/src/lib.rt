@@ -1,4 +1,6 @@
 // Conversion to frames: the search, then the moves and the holds.
+#![tactic(auto)]
+
 ghost use Rattle.convert.specs.Convert.{ConvertOutcome};
 ghost use Rattle.convert.specs.Within.{FramesReady, FramesWritten};
 ghost use Rattle.tables.specs.Buffers.{tables};

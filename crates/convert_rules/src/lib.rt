@@ -1,4 +1,6 @@
 // Conversion to frames by a table of rules: the searches, then the moves and the holds.
+#![tactic(auto)]
+
 ghost use Rattle.convert_rules.specs.ConvertRules.{ConvertRulesOutcome};
 ghost use Rattle.tables.specs.Buffers.{tables};
 

@@ -1,5 +1,7 @@
 // Copying bytes in blocks, each through a local array. No buffer overlaps it, so that this is
 // compiled to a copy of memory.
+#![tactic(auto)]
+
 ghost use Rattle.std.specs.Prelude.{◌≡◌, ◌+◌, ◌≤◌, ◌<◌, length, take};
 ghost use Rattle.answers.specs.Buffers.{from_entry, in_front};
 ghost use Rattle.copy_blocks.specs.Blocks.{block_len, block_at};

@@ -1,5 +1,7 @@
 // The dearest job: of every pattern (motif) and text (ring) of a size, of bytes (cards) 00 and 01,
 // the first pair whose search makes the most comparisons (looks).
+#![tactic(auto)]
+
 ghost use Rattle.std.specs.Prelude.{◌≡◌, ◌+◌, ◌^◌, ◌≤◌, ◌<◌, length, take};
 ghost use Rattle.answers.specs.Buffers.{in_front};
 ghost use Rattle.dearest_pairs.specs.Dearest.{cost};

@@ -1,4 +1,6 @@
 // An edit of a rule table: a new rule is put in the place of a numbered one.
+#![tactic(auto)]
+
 ghost use Rattle.std.specs.Prelude.{◌≡◌, length};
 ghost use Rattle.rules.specs.Rules.{table_size};
 ghost use Rattle.edit_rule.specs.Edit.{edit_status, EditOutcome};

@@ -1,5 +1,7 @@
 // Why a position has no hold, as one call: the tables worked out anew, and the position explained
 // by them.
+#![tactic(auto)]
+
 ghost use Rattle.std.specs.Prelude.{◌≡◌};
 ghost use Rattle.tables.specs.Buffers.{tables};
 ghost use Rattle.explain.specs.Explain.{explain_status, explain_status_of, ExplainOutcome};

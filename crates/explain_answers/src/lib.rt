@@ -1,5 +1,7 @@
 // Why a position has no hold: the explanation as an enum, and the answer at the C boundary, which
 // carries no enum.
+#![tactic(auto)]
+
 ghost use Rattle.std.specs.Prelude.{◌≡◌};
 ghost use Rattle.explain_answers.specs.Answer.{kind_number, explained, refused};
 

@@ -1,5 +1,7 @@
 // A position explained by the tables of a pattern: a walk to the alignment that reaches it, and
 // what that tells.
+#![tactic(auto)]
+
 ghost use Rattle.std.specs.Prelude.{◌≡◌};
 ghost use Rattle.explain_meaning.specs.Explanation.{kind_by, explanation_in};
 ghost use Rattle.explain_walk.specs.Reach.{ReachReady};

@@ -1,5 +1,7 @@
 // Why a position has no hold, by one rule of a table: the rule is named by its number, and the
 // position is explained by its pattern (motif).
+#![tactic(auto)]
+
 ghost use Rattle.tables.specs.Buffers.{tables};
 ghost use Rattle.explain_rule.specs.ExplainRule.{ExplainRuleOutcome};
 

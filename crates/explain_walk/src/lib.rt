@@ -1,5 +1,7 @@
 // The walk along the alignments of a search to the one that reaches a position b: it is laid there
 // or shifts past it.
+#![tactic(auto)]
+
 ghost use Rattle.std.specs.Prelude.{false, ◌≡◌, ◌+◌, ◌≤◌, ◌<◌, length};
 ghost use Rattle.tables.specs.Tables.{stored_Δ1, repeats};
 ghost use Rattle.steps.specs.Steps.{compared};

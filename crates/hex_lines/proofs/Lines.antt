@@ -5,8 +5,8 @@ use mathlib.Core.Path.{◌≡◌, sym}
 use Prim.Native.Nat.{ℕ, suc, ◌+◌, ◌*◌, ◌/◌, ◌%◌, ◌^◌}
 use native.Mathlib.Nat.{pow-suc, mod-mod, div-div-eq-div-mul, mul-zero, mul-suc, add_comm}
 use lib.ListN.{length, length-append}
-use Rattle.hex.proofs.Numbers.{length_digits}
-use Rattle.hex.specs.Hex.{digit, digits}
+use Rattle.hex_digits.proofs.Numbers.{length_digits}
+use Rattle.hex_digits.specs.Hex.{digit, digits}
 use Rattle.hex_lines.specs.Lines.{line, lines}
 
 pub length_line : (n v : ℕ) → length (line n v) ≡ n + 1

@@ -1,6 +1,6 @@
 -- Numbers in capital hexadecimal, a line each: the lines of job files and of what SEEK prints. These are definitions.
 use Rattle.std.specs.Prelude.{List, [], ◌∷◌, ◌++◌, ℕ}
-use Rattle.hex.specs.Hex.{digits}
+use Rattle.hex_digits.specs.Hex.{digits}
 
 -- each line is ended by byte 0A (hexadecimal)
 abbrev pub line_end : ℕ

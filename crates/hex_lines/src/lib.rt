@@ -1,8 +1,10 @@
 // Numbers in capital hexadecimal, a line each, written into a caller's buffer.
+#![tactic(auto)]
+
 ghost use Rattle.std.specs.Prelude.{◌≡◌, ◌+◌, ◌≤◌, length};
 ghost use Rattle.answers.specs.Buffers.{from_entry};
-ghost use Rattle.hex.specs.Hex.{digits};
-ghost use Rattle.hex.specs.Pairs.{DigitPairs};
+ghost use Rattle.hex_digits.specs.Hex.{digits};
+ghost use Rattle.hex_digits.specs.Pairs.{DigitPairs};
 ghost use Rattle.hex_lines.specs.Lines.{line};
 
 // The byte that ends each line.
@@ -19,7 +21,7 @@ pub fn write_digits(count: usize, number: u32, at: usize, out: &mut [u8]) -> usi
     let mut left = count;
     while 0 < left {
         left -= 1;
-        out[at + left] = hex::digit_of((rest % 16) as u8);
+        out[at + left] = hex_digits::digit_of((rest % 16) as u8);
         rest /= 16;
     }
     at + count

@@ -4,7 +4,7 @@ use mathlib.Core.List.{List}
 use mathlib.Core.Path.{◌≡◌, refl, ap}
 use Prim.Native.Nat.{ℕ, zero, suc, ◌+◌, ◌*◌}
 use lib.ListN.{length, length-append}
-use Rattle.hex.specs.Hex.{digits}
+use Rattle.hex_digits.specs.Hex.{digits}
 use Rattle.hex_lines.proofs.Lines.{length_lines}
 use Rattle.hex_lines.specs.Lines.{line}
 use Rattle.job.specs.Job.{first_line, job_file, file_length, m_in, n_in, bytes_in, pattern_in, text_in}

@@ -12,9 +12,9 @@ use lib.Dec.{eqb}
 use lib.ListN.{length, drop, get_or}
 use lib.Seq.{drop-length}
 use Rattle.answers.specs.Bytes.{Bytes}
-use Rattle.hex.proofs.Numbers.{bytes_past, byte_there, byte_stands, length_digits, all_digits_written, number_written, digits_read}
-use Rattle.hex.proofs.Table.{and_left, and_right}
-use Rattle.hex.specs.Hex.{digits, all_digits, number}
+use Rattle.hex_digits.proofs.Numbers.{bytes_past, byte_there, byte_stands, length_digits, all_digits_written, number_written, digits_read}
+use Rattle.hex_digits.proofs.Table.{and_left, and_right}
+use Rattle.hex_digits.specs.Hex.{digits, all_digits, number}
 use Rattle.job.proofs.Lengths.{length_file, length_pattern, length_text}
 use Rattle.hex_lines.proofs.Lines.{length_lines}
 use Rattle.hex_lines.specs.Lines.{line_end, line, lines}

@@ -1,7 +1,7 @@
 -- The job file (document 01, "The job file"): its lines, what they give, and its refusals in their order. These are definitions.
 use Rattle.std.specs.Prelude.{Bool, true, ◌&&◌, not, List, [], ◌∷◌, ◌++◌, ℕ, zero, suc, ◌+◌, ◌*◌, ltb, eqb, length, get_or}
 use Rattle.answers.specs.Refusals.{Refusal, refuse, first_of, job_refusals}
-use Rattle.hex.specs.Hex.{digits, all_digits, number}
+use Rattle.hex_digits.specs.Hex.{digits, all_digits, number}
 use Rattle.hex_lines.specs.Lines.{line_end, line, lines}
 
 -- the first line has ten digits: edition 01, m in two, q in two, n in four

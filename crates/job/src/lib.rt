@@ -1,5 +1,7 @@
 // Job files: what reading and writing answer. The file's definition is in specs/, and what is
 // promised of it in specs/Promises.antt.
+#![tactic(auto)]
+
 use answers::Answer;
 
 // What reading answers.

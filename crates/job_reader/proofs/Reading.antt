@@ -10,13 +10,13 @@ use borrow.Author.Tests.{le-ltb, eq-eqb, ne_eqb}
 use lib.Dec.{eqb}
 use lib.ListN.{length, get_or}
 use Rattle.answers.specs.Refusals.{Refusal, refuse, first_of, job_refusals, buffer_refusal}
-use Rattle.hex.proofs.Pairs.{both_digits}
-use Rattle.hex.proofs.Parse.{told_good, told_bad, refused_bad}
-use Rattle.hex.proofs.Table.{and_left, and_right}
-use Rattle.hex.specs.Hex.{is_digit, all_digits, number}
-use Rattle.hex.specs.Parsed.{ParsedOutcome}
-use Rattle.hex.specs.declared.Parsed.{Parsed}
-use Rattle.hex.specs.declared.Parsed.TheVariants as parsed
+use Rattle.hex_digits.proofs.Pairs.{both_digits}
+use Rattle.hex_digits.proofs.Parse.{told_good, told_bad, refused_bad}
+use Rattle.hex_digits.proofs.Table.{and_left, and_right}
+use Rattle.hex_digits.specs.Hex.{is_digit, all_digits, number}
+use Rattle.hex_digits.specs.Parsed.{ParsedOutcome}
+use Rattle.hex_digits.specs.declared.Parsed.{Parsed}
+use Rattle.hex_digits.specs.declared.Parsed.TheVariants as parsed
 use Rattle.job.proofs.RoundTrip.{good_lines_split}
 use Rattle.job.specs.Job.{good_line, good_lines, bytes_in, edition_in, m_in, q_in, n_in, file_length, file_refusals}
 use Rattle.hex_lines.specs.Lines.{line_end}

@@ -1,14 +1,16 @@
 // Reading a job file: all of it is checked before anything is written to the caller's buffers.
+#![tactic(auto)]
+
 ghost use Rattle.std.specs.Prelude.{true, ◌&&◌, ◌≡◌, ◌+◌, ◌*◌, ◌≤◌, ◌<◌, eqb, length};
-ghost use Rattle.hex.specs.Hex.{is_digit, digit_value, all_digits, number};
-ghost use Rattle.hex.specs.Parsed.{ParsedOutcome};
+ghost use Rattle.hex_digits.specs.Hex.{is_digit, digit_value, all_digits, number};
+ghost use Rattle.hex_digits.specs.Parsed.{ParsedOutcome};
 ghost use Rattle.answers.specs.Answers.{status_only};
 ghost use Rattle.job.specs.Job.{good_lines, bytes_in};
 ghost use Rattle.job.specs.Read.{read_status, ReadOutcome};
 ghost use Rattle.hex_lines.specs.Lines.{line_end};
 ghost use Rattle.job_reader.specs.FirstLine.{FirstLineOutcome, FirstLineRead};
 
-use hex::Parsed;
+use hex_digits::Parsed;
 use hex_lines::LINE_END;
 use job::ReadAnswer;
 
@@ -34,10 +36,10 @@ fn pair(high: u8, low: u8) -> Parsed
     ensures { ParsedOutcome (is_digit high && is_digit low)
         (digit_value high * 16 + digit_value low) result }
 {
-    let Parsed::Value(sixteens) = hex::digit_value(high) else {
+    let Parsed::Value(sixteens) = hex_digits::digit_value(high) else {
         return Parsed::Refused;
     };
-    let Parsed::Value(units) = hex::digit_value(low) else {
+    let Parsed::Value(units) = hex_digits::digit_value(low) else {
         return Parsed::Refused;
     };
     Parsed::Value(sixteens * 16 + units)
@@ -144,7 +146,7 @@ fn read_lines(file: &[u8], from: usize, out: &mut [u8])
 {
     for i in 0..out.len() {
         let at = from + 3 * i;
-        out[i] = hex::value_of(file[at]) * 16 + hex::value_of(file[at + 1]);
+        out[i] = hex_digits::value_of(file[at]) * 16 + hex_digits::value_of(file[at + 1]);
     }
 }
 

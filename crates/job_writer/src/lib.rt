@@ -1,4 +1,6 @@
 // Writing a job file.
+#![tactic(auto)]
+
 ghost use Rattle.std.specs.Prelude.{◌≡◌, ◌+◌, ◌*◌, ◌≤◌, length};
 ghost use Rattle.answers.specs.Buffers.{from_entry};
 ghost use Rattle.job.specs.Job.{first_line};

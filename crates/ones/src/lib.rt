@@ -1,4 +1,6 @@
 // The ones of a text (the holes of a chain).
+#![tactic(auto)]
+
 ghost use Rattle.std.specs.Prelude.{◌≡◌, ◌<◌, ◌≤◌, length};
 ghost use Rattle.answers.specs.Refusals.{longest_text};
 ghost use Rattle.ones.specs.Ones.{ones_of, count_answer};

@@ -1,4 +1,6 @@
 // Preparing a pattern: its tables in the caller's buffers.
+#![tactic(auto)]
+
 ghost use Rattle.std.specs.Prelude.{◌≡◌, ◌+◌, ◌≤◌, length};
 ghost use Rattle.answers.specs.Buffers.{in_front};
 ghost use Rattle.tables.specs.Buffers.{tables, PatternTaken, TablesFit, TablesWritten};

@@ -1,4 +1,6 @@
 // The price of a job: a search, and then the tariff.
+#![tactic(auto)]
+
 ghost use Rattle.price.specs.Price.{PriceOutcome};
 ghost use Rattle.tables.specs.Buffers.{tables};
 

@@ -1,4 +1,6 @@
 // The price of a job by a table of rules: the searches, and then the tariff.
+#![tactic(auto)]
+
 ghost use Rattle.std.specs.Prelude.{◌≡◌, ◌≤◌, length};
 ghost use Rattle.answers.specs.Refusals.{longest_text};
 ghost use Rattle.price_rules.specs.PriceRules.{occurrences_told, PriceRulesOutcome};

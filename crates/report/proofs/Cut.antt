@@ -11,7 +11,7 @@ use lib.ListN.{length, take}
 use lib.Seq.{take_all, get_or-take, length-take-le}
 use Rattle.answers.proofs.Refusals.{same_past, limits_hold}
 use Rattle.answers.specs.Refusals.{Refusal, refuse, first_of, job_refusals}
-use Rattle.hex.specs.Hex.{all_digits, number}
+use Rattle.hex_digits.specs.Hex.{all_digits, number}
 use Rattle.job.proofs.Taken.{file_taken}
 use Rattle.job.specs.Job.{edition_in, m_in, q_in, n_in, good_line, good_lines, file_length, file_refusals, file_status}
 use Rattle.report.proofs.Printed.{printed_refused}

@@ -10,9 +10,9 @@ use lib.ListN.{length, get_or}
 use Rattle.answers.proofs.Bytes.{bytes_entry}
 use Rattle.answers.specs.Answers.{converted}
 use Rattle.answers.specs.Bytes.{Bytes}
-use Rattle.hex.proofs.Numbers.{number_below}
-use Rattle.hex.proofs.Table.{and_left, and_right}
-use Rattle.hex.specs.Hex.{all_digits}
+use Rattle.hex_digits.proofs.Numbers.{number_below}
+use Rattle.hex_digits.proofs.Table.{and_left, and_right}
+use Rattle.hex_digits.specs.Hex.{all_digits}
 use Rattle.hex_lines.specs.Lines.{line_end}
 use Rattle.job.proofs.Lengths.{length_pattern}
 use Rattle.job.proofs.RoundTrip.{good_lines_split}

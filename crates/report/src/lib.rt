@@ -1,4 +1,6 @@
 // What SEEK prints: from the bytes of a job file to the bytes of its report.
+#![tactic(auto)]
+
 ghost use Rattle.std.specs.Prelude.{◌≤◌, ◌<◌, length};
 ghost use Rattle.answers.specs.Refusals.{longest_pattern, longest_text};
 ghost use Rattle.report_lines.specs.Printed.{ReportWritten};

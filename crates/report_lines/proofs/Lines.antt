@@ -5,7 +5,7 @@ use mathlib.Core.Path.{◌≡◌, refl}
 use Prim.Native.Nat.{ℕ}
 use lib.ListN.{length, length-append}
 use Rattle.answers.specs.declared.Answer.{Answer}
-use Rattle.hex.proofs.Numbers.{length_digits}
+use Rattle.hex_digits.proofs.Numbers.{length_digits}
 use Rattle.hex_lines.proofs.Lines.{length_line, length_lines}
 use Rattle.report_lines.specs.Printed.{AnswerLine, numbers, number_lines, number_bytes, report_lines, report_length, refused_report}
 

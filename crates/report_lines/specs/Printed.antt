@@ -4,7 +4,7 @@ use Rattle.answers.specs.Answers.{status_only, if_done}
 use Rattle.answers.specs.Buffers.{in_front}
 use Rattle.answers.specs.Refusals.{first_of, buffer_refusal}
 use Rattle.answers.specs.declared.Answer.{Answer}
-use Rattle.hex.specs.Hex.{digits}
+use Rattle.hex_digits.specs.Hex.{digits}
 use Rattle.hex_lines.specs.Lines.{line, lines}
 use Rattle.report_lines.specs.declared.ReportAnswer.{ReportAnswer}
 

@@ -1,9 +1,11 @@
 // The lines of a report, written into a caller's buffer.
+#![tactic(auto)]
+
 ghost use Rattle.std.specs.Prelude.{◌≡◌, ◌+◌, ◌*◌, ◌≤◌, length};
 ghost use Rattle.answers.specs.Answers.{status_only};
 ghost use Rattle.answers.specs.Buffers.{from_entry};
 ghost use Rattle.answers.specs.Refusals.{longest_text};
-ghost use Rattle.hex.specs.Pairs.{DigitPairs};
+ghost use Rattle.hex_digits.specs.Pairs.{DigitPairs};
 ghost use Rattle.hex_lines.specs.Lines.{lines};
 ghost use Rattle.report_lines.specs.Printed.{numbers, number_lines, number_bytes};
 ghost use Rattle.report_lines.specs.Printed.{report_lines, refused_report, ReportWritten};
@@ -96,7 +98,7 @@ pub fn write_done(converted: Answer, found: &[u16], frames: &[u16], out: &mut [u
         return answer(7, 0);
     }
     let at = write_numbers(converted, out);
-    let pairs = hex::digit_pairs();
+    let pairs = hex_digits::digit_pairs();
     let at = write_lines(&pairs, found, at, out);
     let bytes = write_lines(&pairs, frames, at, out);
     answer(0, bytes as u32)

@@ -1,4 +1,6 @@
 // Frames put back to the bytes that they were converted from.
+#![tactic(auto)]
+
 ghost use Rattle.std.specs.Prelude.{◌≡◌, ◌≤◌, length};
 ghost use Rattle.answers.specs.Buffers.{in_front};
 ghost use Rattle.restore_conversions.specs.Restored.{all_restored};

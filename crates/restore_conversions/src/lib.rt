@@ -1,4 +1,6 @@
 // Which frames are a conversion: the walk over the bytes that they are put back to.
+#![tactic(auto)]
+
 ghost use Rattle.std.specs.Prelude.{◌≡◌, true, ◌<◌, ◌≤◌, length, get_or};
 ghost use Rattle.answers.specs.Refusals.{longest_pattern};
 ghost use Rattle.restore_conversions.specs.Restored.{is_frame, restored_byte, all_restored};

@@ -1,5 +1,7 @@
 // The longest prefix of a pattern that ends at each position of a text, by Knuth, Morris and
 // Pratt's links.
+#![tactic(auto)]
+
 ghost use Rattle.std.specs.Prelude.{◌≡◌, ◌+◌, ◌≤◌, length};
 ghost use Rattle.answers.specs.Refusals.{longest_pattern};
 ghost use Rattle.restore_prefixes.specs.Links.{LinksTo};

@@ -1,4 +1,6 @@
 // Frames put back to the bytes that they were converted from, by a table of rules.
+#![tactic(auto)]
+
 ghost use Rattle.std.specs.Prelude.{cond, ◌≡◌, ◌≤◌, length};
 ghost use Rattle.answers.specs.Buffers.{in_front};
 ghost use Rattle.answers.specs.Refusals.{first_of};

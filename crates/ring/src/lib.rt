@@ -1,4 +1,6 @@
 // A text as a ring: which byte a position shows, and how far a search goes.
+#![tactic(auto)]
+
 ghost use Rattle.std.specs.Prelude.{◌≡◌, ◌+◌, ◌%◌, ◌≤◌, length};
 ghost use Rattle.steps.specs.Text.{shown, span};
 

@@ -1,4 +1,6 @@
 // Who may do what: which role may do which job, and the test that stands before each.
+#![tactic(auto)]
+
 ghost use Rattle.std.specs.Prelude.{◌≡◌};
 ghost use Rattle.roles.specs.Roles.{behind_role};
 ghost use Rattle.roles.specs.Table.{job_number};

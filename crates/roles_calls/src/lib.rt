@@ -1,4 +1,6 @@
 // The jobs behind a role: each is the call with a table of rules, behind the test of the role.
+#![tactic(auto)]
+
 ghost use Rattle.roles_calls.specs.Calls.{ConvertAsOutcome, RestoreAsOutcome};
 ghost use Rattle.roles_calls.specs.Calls.{ExplainAsOutcome, PriceAsOutcome};
 ghost use Rattle.roles_calls.specs.Calls.{EditAsOutcome};

@@ -1,5 +1,7 @@
 // The library as a Rust or C program links it: every public call, in one archive. Each takes any
 // arguments, and promises what the call of the same name does in its own room.
+#![tactic(auto)]
+
 ghost use Rattle.std.specs.Prelude.{◌≡◌};
 ghost use Rattle.convert.specs.Convert.{ConvertOutcome};
 ghost use Rattle.convert_rules.specs.ConvertRules.{ConvertRulesOutcome};

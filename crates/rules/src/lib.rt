@@ -1,6 +1,8 @@
 // The rule table: 1 to 16 rules, each a pattern (motif) and a hold offset (hold place), in 2,081
 // bytes that the caller lends. Byte 0 is the number of rules; then come 16 slots of 130 bytes, each
 // a length, a hold offset and room for a pattern of 128.
+#![tactic(auto)]
+
 ghost use Rattle.std.specs.Prelude.{◌≡◌, [], ◌∷◌, ◌≤◌, ◌<◌, length};
 ghost use Rattle.answers.specs.Refusals.{first_of, longest_pattern};
 ghost use Rattle.rules.specs.Rules.{most_rules, table_size, count_of, length_at, offset_at};

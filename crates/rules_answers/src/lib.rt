@@ -1,4 +1,6 @@
 // What searching and converting with a table of rules answer.
+#![tactic(auto)]
+
 ghost use Rattle.std.specs.Prelude.{◌≡◌};
 ghost use Rattle.rules_answers.specs.Answers.{told, no_answers, rules_refused};
 

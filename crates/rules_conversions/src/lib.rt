@@ -1,5 +1,7 @@
 // Which frames are a conversion by a table of rules: each is a move or a hold of one of them, and
 // each rule's walk around the frames finds its holds right.
+#![tactic(auto)]
+
 ghost use Rattle.std.specs.Prelude.{◌∷◌, ◌≡◌, ◌+◌, length, take};
 ghost use Rattle.rules.specs.Rules.{most_rules, count_of, rules_of, TableTaken};
 ghost use Rattle.rules_conversions.specs.Conversions.{all_held, is_conversion};

@@ -1,4 +1,6 @@
 // Frames by a table of rules: a move for each byte of a text, and the holds of each rule.
+#![tactic(auto)]
+
 ghost use Rattle.std.specs.Prelude.{◌≡◌};
 ghost use Rattle.answers.specs.Buffers.{in_front};
 ghost use Rattle.rules.specs.Rules.{rules_of};

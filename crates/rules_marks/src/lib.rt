@@ -1,4 +1,6 @@
 // Whether two rules of a table claim the same byte of a ring (refusal 12).
+#![tactic(auto)]
+
 ghost use Rattle.std.specs.Prelude.{◌≡◌, ◌+◌, ◌<◌, ◌≤◌, length};
 ghost use Rattle.answers.specs.Refusals.{longest_pattern, longest_text};
 ghost use Rattle.restore_prefixes.specs.Links.{LinksTo};

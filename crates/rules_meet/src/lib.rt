@@ -1,4 +1,6 @@
 // Whether rules of a table can meet: claim one byte of some ring.
+#![tactic(auto)]
+
 ghost use Rattle.std.specs.Prelude.{◌≡◌, ◌<◌, ◌≤◌, length};
 ghost use Rattle.answers.specs.Refusals.{longest_pattern};
 ghost use Rattle.rules.specs.Rules.{count_of, rule_at, TableTaken};

@@ -1,1 +1,2 @@
 // A table of one rule.
+#![tactic(auto)]

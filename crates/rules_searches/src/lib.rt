@@ -1,4 +1,6 @@
 // A search for each rule of a table, one after another in the caller's buffers.
+#![tactic(auto)]
+
 ghost use Rattle.rules_searches.specs.Parts.{PartFit, PartSearched};
 ghost use Rattle.rules_searches.specs.Searches.{RulesFit, RulesSearched};
 ghost use Rattle.tables.specs.Buffers.{tables};

@@ -1,4 +1,6 @@
 // What every search with a whole table of rules measures before anything is written.
+#![tactic(auto)]
+
 ghost use Rattle.std.specs.Prelude.{◌≡◌, ◌≤◌, length};
 ghost use Rattle.tables.specs.Buffers.{short_of};
 ghost use Rattle.rules.specs.Buffers.{all_needed};

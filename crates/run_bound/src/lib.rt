@@ -1,4 +1,6 @@
 // The bound on the comparisons of a search, worked out.
+#![tactic(auto)]
+
 ghost use Rattle.std.specs.Prelude.{◌≡◌, ◌≤◌};
 ghost use Rattle.answers.specs.Refusals.{longest_pattern};
 ghost use Rattle.steps.specs.Bound.{bound};

@@ -1,4 +1,6 @@
 // The repeats after an occurrence, where the pattern repeats.
+#![tactic(auto)]
+
 ghost use Rattle.std.specs.Prelude.{true, ◌≡◌, ◌≤◌, length};
 ghost use Rattle.steps.specs.Occurrences.{occurrences};
 ghost use Rattle.alignment.specs.Ready.{RepeatsReady};

@@ -1,4 +1,6 @@
 // Where the steps stand, and how they go on past the alignments whose first comparison differs.
+#![tactic(auto)]
+
 ghost use Rattle.tables.specs.Tables.{stored_Δ1};
 ghost use Rattle.alignment.specs.Ready.{Begins, Taken};
 ghost use Rattle.run_state.specs.Progress.{Standing, Followed, PassedDiffering};

@@ -1,5 +1,7 @@
 // The steps of a search, run by the pattern's tables: first the alignments that end inside the
 // text, then those that wrap around.
+#![tactic(auto)]
+
 ghost use Rattle.std.specs.Prelude.{false, ◌≡◌, ◌≤◌, ◌<◌};
 ghost use Rattle.alignment.specs.Laid.{laid_first, ComparedSo};
 ghost use Rattle.run_state.specs.Progress.{at, Standing, Followed, Moved};

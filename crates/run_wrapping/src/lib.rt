@@ -1,4 +1,6 @@
 // The alignments that go past the text's end and around to its first bytes, one at a time.
+#![tactic(auto)]
+
 ghost use Rattle.std.specs.Prelude.{◌≤◌, ◌<◌, length};
 ghost use Rattle.steps.specs.Occurrences.{occurrences};
 ghost use Rattle.alignment.specs.Ready.{ShiftTablesReady};

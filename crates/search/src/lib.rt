@@ -1,4 +1,6 @@
 // Colussi's search as one call: the tables worked out anew, then the steps, then the bound.
+#![tactic(auto)]
+
 ghost use Rattle.search.specs.Search.{SearchFit, SearchOutcomeOf, SearchOutcome};
 ghost use Rattle.tables.specs.Buffers.{tables};
 

@@ -1,4 +1,6 @@
 // A search with a table of rules as one call: measured first, then each rule, one after another.
+#![tactic(auto)]
+
 ghost use Rattle.search_rules.specs.SearchRules.{SearchRulesOutcome};
 ghost use Rattle.tables.specs.Buffers.{tables};
 

@@ -1,4 +1,6 @@
 // SEEK: reads a job on standard input and prints its report.
+#![tactic(auto)]
+
 ghost use Rattle.std.specs.Prelude.{false, ◌≡◌, List, ℕ, ◌≤◌, length, take};
 ghost use Rattle.io.specs.Counts.{IsPrefixLen};
 ghost use Rattle.report.specs.Promises.{input_room, ReadFrom, longest_report};

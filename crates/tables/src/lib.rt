@@ -1,5 +1,7 @@
 // The tables of a pattern: their definitions are in specs/, and the laws of each in proofs/. The
 // code that works them out is in the crates whose names begin with tables, and in prepare.
+#![tactic(auto)]
+
 ghost use Rattle.std.specs.Prelude.{◌≡◌, ◌≤◌};
 ghost use Rattle.answers.specs.Refusals.{longest_pattern};
 ghost use Rattle.tables.specs.Buffers.{tables, lengths, tables_short, measured_status};

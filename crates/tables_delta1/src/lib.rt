@@ -1,6 +1,8 @@
 // Δ1 of a pattern (motif), a row of m entries for each byte. Every entry starts as m; then each
 // position below m - 1 lowers the row of its own byte to its shift, the distance from m - 1,
 // wherever the last shift allows that.
+#![tactic(auto)]
+
 ghost use Rattle.std.specs.Prelude.{◌≡◌, ◌*◌, ◌-◌, ◌≤◌, ◌<◌, length};
 ghost use Rattle.answers.specs.Buffers.{in_front};
 ghost use Rattle.answers.specs.Refusals.{longest_pattern};

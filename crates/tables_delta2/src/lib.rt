@@ -1,6 +1,8 @@
 // Δ2 beside the order, in the caller's buffer. In the third group it is r_min(h), the least period
 // above h. For the second group the shifts that are no period are linked, and each entry unlinks
 // those that do not keep what it shows.
+#![tactic(auto)]
+
 ghost use Rattle.std.specs.Prelude.{◌≡◌, ◌+◌, ◌≤◌, ◌<◌, length};
 ghost use Rattle.answers.specs.Buffers.{in_front};
 ghost use Rattle.answers.specs.Refusals.{longest_pattern};

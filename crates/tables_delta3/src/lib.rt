@@ -1,5 +1,7 @@
 // Δ3, the shifts of a pattern that repeats, in the caller's buffer, by h_min and r_min in tables of
 // 129 entries.
+#![tactic(auto)]
+
 ghost use Rattle.std.specs.Prelude.{◌≡◌, ◌+◌, ◌*◌, ◌-◌, ◌≤◌, length, get_or};
 ghost use Rattle.answers.specs.Buffers.{in_front};
 ghost use Rattle.answers.specs.Refusals.{longest_pattern};

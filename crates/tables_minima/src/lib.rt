@@ -1,4 +1,6 @@
 // Colussi's h_min, k_min and r_min, each in a table of 129 entries that are all 0 to begin with.
+#![tactic(auto)]
+
 ghost use Rattle.std.specs.Prelude.{◌≡◌, ◌+◌, pos, length, replicate};
 ghost use Rattle.answers.specs.Refusals.{longest_pattern};
 ghost use Rattle.tables.specs.Tables.{h_min};

@@ -1,5 +1,7 @@
 // The order in which an alignment compares, in the caller's buffer, by h_min and k_min in tables of
 // 129 entries.
+#![tactic(auto)]
+
 ghost use Rattle.std.specs.Prelude.{map, ◌≡◌, ◌+◌, ◌≤◌, pos, length};
 ghost use Rattle.answers.specs.Buffers.{from_entry, in_front};
 ghost use Rattle.tables_minima.specs.Minima.{HMinTable, KMinTable};

@@ -1,4 +1,6 @@
 // Turning a job: its bytes mirrored, their order reversed, or both.
+#![tactic(auto)]
+
 ghost use Rattle.std.specs.Prelude.{◌≡◌, ◌<◌, ◌≤◌, length, take};
 ghost use Rattle.answers.specs.Buffers.{in_front};
 ghost use Rattle.turn_mirror.specs.Mirrored.{MirrorTable};

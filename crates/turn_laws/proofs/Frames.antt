@@ -15,7 +15,7 @@ use lib.ListN.{length, get_or}
 use lib.Seq.{ext_get_or}
 use Rattle.answers.proofs.Bytes.{bytes_entry}
 use Rattle.answers.specs.Bytes.{Bytes}
-use Rattle.hex.proofs.Table.{below, at}
+use Rattle.hex_digits.proofs.Table.{below, at}
 use Rattle.tables.proofs.Cases.{true_or_false, le_or_lt}
 use Rattle.tables.specs.Sets.{byte}
 use Rattle.ring.proofs.Back.{back_inside, back_on}

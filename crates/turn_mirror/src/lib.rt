@@ -1,4 +1,6 @@
 // Mirrored bytes (cards).
+#![tactic(auto)]
+
 ghost use Rattle.turn_mirror.specs.Mirrored.{MirrorTable};
 
 // The table of mirrored bytes. A call binds it once: a constant is copied at each use.

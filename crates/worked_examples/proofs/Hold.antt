@@ -15,7 +15,7 @@ use Rattle.answers.specs.Answers.{counted, if_done, answered}
 use Rattle.answers.specs.Buffers.{from_entry, in_front}
 use Rattle.answers.specs.Bytes.{Bytes}
 use Rattle.answers.specs.Refusals.{first_of, longest_pattern, longest_text, job_refusals}
-use Rattle.hex.specs.Hex.{is_digit, digit_value, digit, digits, all_digits, number}
+use Rattle.hex_digits.specs.Hex.{is_digit, digit_value, digit, digits, all_digits, number}
 use Rattle.hex_lines.specs.Lines.{line, lines}
 use Rattle.job.specs.Job.{first_line, job_file, edition_in, m_in, q_in, n_in, bytes_in, pattern_in, text_in, good_line, good_lines, file_refusals, file_status}
 use Rattle.job.proofs.RoundTrip.{written_read}

@@ -1,2 +1,3 @@
 // The worked examples of documents 01 and 02: a table in specs/, and one statement over it in
 // proofs/.
+#![tactic(auto)]

@@ -7,8 +7,8 @@ use native.Mathlib.Omega.{arith}
 use lib.ListN.{length, set, length-set}
 use lib.Seq.{sets, set_comm}
 use Rattle.answers.proofs.Fronts.{from_entry_sets}
-use Rattle.hex.proofs.Numbers.{length_digits}
-use Rattle.hex.specs.Hex.{digit, digits}
+use Rattle.hex_digits.proofs.Numbers.{length_digits}
+use Rattle.hex_digits.specs.Hex.{digit, digits}
 use Rattle.hex_lines.proofs.Lines.{digit_before, places_above}
 use Rattle.hex_lines.proofs.write_digits.Statement.{statement}
 use Rattle.hex_lines.proofs.write_digits.Tie as tie

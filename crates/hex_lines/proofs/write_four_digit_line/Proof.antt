@@ -4,7 +4,7 @@ use native.Mathlib.Omega.{arith}
 use borrow.Author.Rules.{rules}
 use lib.ListN.{length-set}
 use Rattle.answers.proofs.Partly.{put, put_more, put_store}
-use Rattle.hex.proofs.Numbers.{length_digits, digits_low, digits_append}
+use Rattle.hex_digits.proofs.Numbers.{length_digits, digits_low, digits_append}
 use Rattle.hex_lines.proofs.write_four_digit_line.Statement.{statement}
 use Rattle.hex_lines.proofs.write_four_digit_line.Tie as tie
 use Rattle.hex_lines.specs.Lines.{line_end, line}

@@ -3,7 +3,7 @@
 use native.Mathlib.Omega.{arith}
 use borrow.Author.Rules.{rules}
 use Rattle.answers.proofs.Partly.{put, put_store}
-use Rattle.hex.proofs.Numbers.{length_digits}
+use Rattle.hex_digits.proofs.Numbers.{length_digits}
 use Rattle.hex_lines.proofs.write_line.Statement.{statement}
 use Rattle.hex_lines.proofs.write_line.Tie as tie
 use Rattle.hex_lines.specs.Lines.{line_end, line}

@@ -5,7 +5,7 @@ use native.Mathlib.Omega.{arith}
 use borrow.Author.Rules.{rules}
 use lib.ListN.{length-set}
 use Rattle.answers.proofs.Partly.{put_none, put_store}
-use Rattle.hex.proofs.Pairs.{pair_digits}
+use Rattle.hex_digits.proofs.Pairs.{pair_digits}
 use Rattle.hex_lines.proofs.write_pair.Statement.{statement}
 use Rattle.hex_lines.proofs.write_pair.Tie as tie
 

@@ -3,7 +3,7 @@
 use mathlib.Core.Bool.{and-false}
 use native.Mathlib.Omega.{arith}
 use borrow.Author.Tests.{eq-eqb, ne_eqb}
-use Rattle.hex.proofs.Parse.{value_read}
+use Rattle.hex_digits.proofs.Parse.{value_read}
 use Rattle.job_reader.proofs.Reading.{first_line_pairs, first_refused, first_good, fields_read, pair_refused}
 use borrow.Author.Rules.{rules}
 use Rattle.job.specs.Job.{good_line}

@@ -1,7 +1,7 @@
 -- `job_reader::is_line` meets its contract: two digits and the line end.
 -- Assumes nothing.
 use borrow.Author.Rules.{rules}
-use Rattle.hex.proofs.Parse.{value_read, refused_bad}
+use Rattle.hex_digits.proofs.Parse.{value_read, refused_bad}
 use Rattle.job_reader.proofs.is_line.Statement.{statement}
 use Rattle.job_reader.proofs.is_line.Tie as tie
 

@@ -3,7 +3,7 @@
 use mathlib.Core.Bool.{and-false}
 use Prim.Native.Nat.{◌<◌}
 use native.Mathlib.Omega.{arith}
-use Rattle.hex.proofs.Parse.{refused, taken, refused_bad, value_read, digit_below}
+use Rattle.hex_digits.proofs.Parse.{refused, taken, refused_bad, value_read, digit_below}
 use borrow.Author.Rules.{rules}
 use Rattle.job_reader.proofs.pair.Statement.{statement}
 use Rattle.job_reader.proofs.pair.Tie as tie

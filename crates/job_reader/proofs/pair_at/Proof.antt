@@ -1,7 +1,7 @@
 -- `job_reader::pair_at` meets its contract: the two bytes at the place are the pair.
 -- Assumes nothing.
 use borrow.Author.Rules.{rules}
-use Rattle.hex.proofs.Pairs.{both_digits, pair_number}
+use Rattle.hex_digits.proofs.Pairs.{both_digits, pair_number}
 use Rattle.job_reader.proofs.pair_at.Statement.{statement}
 use Rattle.job_reader.proofs.pair_at.Tie as tie
 

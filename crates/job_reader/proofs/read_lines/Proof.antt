@@ -8,11 +8,11 @@ use native.Mathlib.Omega.{arith}
 use lib.ListN.{length}
 use Rattle.answers.proofs.Fronts.{in_front_whole}
 use Rattle.answers.proofs.Partly.{put_front, PartlyWritten, none_written, kept_length, one_more, all_written}
-use Rattle.hex.proofs.Digits.{digit_from, value_below}
-use Rattle.hex.proofs.Pairs.{pair_number, high_digit, low_digit}
+use Rattle.hex_digits.proofs.Digits.{digit_from, value_below}
+use Rattle.hex_digits.proofs.Pairs.{pair_number, high_digit, low_digit}
 use Rattle.job.proofs.Lengths.{length_bytes}
 use Rattle.job_reader.proofs.Reading.{bytes_from, line_digits}
-use Rattle.hex.specs.Hex.{all_digits}
+use Rattle.hex_digits.specs.Hex.{all_digits}
 use Rattle.job.specs.Job.{bytes_in}
 use Rattle.job_reader.proofs.read_lines.Statement.{statement}
 use Rattle.job_reader.proofs.read_lines.Tie as tie

@@ -3,7 +3,7 @@
 use native.Mathlib.Omega.{arith}
 use borrow.Author.Rules.{rules}
 use Rattle.answers.proofs.Partly.{put, ◌then◌}
-use Rattle.hex.proofs.Numbers.{length_digits}
+use Rattle.hex_digits.proofs.Numbers.{length_digits}
 use Rattle.job.specs.Job.{first_line}
 use Rattle.hex_lines.proofs.Lines.{length_line}
 use Rattle.job_writer.proofs.write_first_line.Statement.{statement}

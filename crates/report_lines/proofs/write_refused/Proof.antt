@@ -3,7 +3,7 @@
 use native.Mathlib.Omega.{arith}
 use borrow.Author.Rules.{rules}
 use Rattle.answers.proofs.Partly.{put, ◌then◌}
-use Rattle.hex.proofs.Numbers.{length_digits}
+use Rattle.hex_digits.proofs.Numbers.{length_digits}
 use Rattle.hex_lines.proofs.Lines.{length_line}
 use Rattle.report_lines.proofs.Lines.{length_refused}
 use Rattle.report_lines.proofs.Outcome.{too_short, written}

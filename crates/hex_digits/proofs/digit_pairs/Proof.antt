@@ -1,4 +1,4 @@
--- `hex::digit_pairs` meets its contract. The loop's invariant: the digits of the bytes below `byte` stand in their places.
+-- `hex_digits::digit_pairs` meets its contract. The loop's invariant: the digits of the bytes below `byte` stand in their places.
 -- The measure is what is left of the 256. Assumes nothing.
 use mathlib.Core.List.{List}
 use mathlib.Core.Path.{◌≡◌, refl}
@@ -7,10 +7,10 @@ use native.Mathlib.Omega.{arith}
 use borrow.Author.Count.{below_more}
 use lib.ListN.{length, get_or, set, length-set}
 use lib.Seq.{get_or-set_same, get_or-set_other}
-use Rattle.hex.proofs.digit_pairs.Statement.{statement}
-use Rattle.hex.proofs.digit_pairs.Tie as tie
-use Rattle.hex.specs.Hex.{digit}
-use Rattle.hex.specs.Pairs.{DigitPair}
+use Rattle.hex_digits.proofs.digit_pairs.Statement.{statement}
+use Rattle.hex_digits.proofs.digit_pairs.Tie as tie
+use Rattle.hex_digits.specs.Hex.{digit}
+use Rattle.hex_digits.specs.Pairs.{DigitPair}
 
 abbrev invariant_loop : tie.invariant_loop
 invariant_loop pairs₀ byte₀ pairs byte = (byte ≤ 256) × (length pairs ≡ 512) × ((b : ℕ) → b < byte → DigitPair pairs b)

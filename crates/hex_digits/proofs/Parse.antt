@@ -4,11 +4,11 @@ use mathlib.Core.Bool.{Bool, true, false, cond}
 use mathlib.Core.Path.{◌≡◌, refl, sym, ap, ◌∙◌}
 use Prim.Native.Nat.{ℕ, ◌<◌}
 use borrow.Author.Tests.{eqb-false}
-use Rattle.hex.proofs.Digits.{value_below}
-use Rattle.hex.specs.Hex.{is_digit, digit_value}
-use Rattle.hex.specs.Parsed.{ParsedOutcome, parsed_status, parsed_value}
-use Rattle.hex.specs.declared.Parsed.{Parsed}
-use Rattle.hex.specs.declared.Parsed.TheVariants.{Value, Refused}
+use Rattle.hex_digits.proofs.Digits.{value_below}
+use Rattle.hex_digits.specs.Hex.{is_digit, digit_value}
+use Rattle.hex_digits.specs.Parsed.{ParsedOutcome, parsed_status, parsed_value}
+use Rattle.hex_digits.specs.declared.Parsed.{Parsed}
+use Rattle.hex_digits.specs.declared.Parsed.TheVariants.{Value, Refused}
 
 pub refused : (good : Bool) (value : ℕ) → good ≡ false → ParsedOutcome good value Refused
 unfolding parsed_status parsed_value

@@ -1,7 +1,7 @@
 -- Bytes read as a number: document 01's number and value for each case of the enum. These are definitions.
 use Rattle.std.specs.Prelude.{Bool, cond, ◌≡◌, ℕ}
-use Rattle.hex.specs.declared.Parsed.{Parsed}
-use Rattle.hex.specs.declared.Parsed.TheVariants.{Value, Refused}
+use Rattle.hex_digits.specs.declared.Parsed.{Parsed}
+use Rattle.hex_digits.specs.declared.Parsed.TheVariants.{Value, Refused}
 
 -- document 01's number for each case: 0, or refusal 2, a byte that is not the digit or line end due there
 unfoldable pub parsed_status : Parsed → ℕ

@@ -1,10 +1,10 @@
--- `hex::value_of` meets its contract: the test is the definition's.
+-- `hex_digits::value_of` meets its contract: the test is the definition's.
 -- Assumes nothing.
 use borrow.Author.Rules.{rules}
 use mathlib.Core.Path.{sym}
-use Rattle.hex.proofs.Digits.{decimal_value, capital_value}
-use Rattle.hex.proofs.value_of.Statement.{statement}
-use Rattle.hex.proofs.value_of.Tie as tie
+use Rattle.hex_digits.proofs.Digits.{decimal_value, capital_value}
+use Rattle.hex_digits.proofs.value_of.Statement.{statement}
+use Rattle.hex_digits.proofs.value_of.Tie as tie
 
 pub value_of_spec : {M : Type 1} → statement M
 value_of_spec =

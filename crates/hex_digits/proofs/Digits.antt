@@ -6,8 +6,8 @@ use Prim.Native.Nat.{ℕ, ◌-◌, ◌≤◌, ◌<◌}
 use native.Mathlib.Omega.{arith}
 use borrow.Author.Tests.{le-leb, lt-leb, ltb-true, eqb-true}
 use lib.Dec.{ltb, eqb}
-use Rattle.hex.proofs.Table.{below, at}
-use Rattle.hex.specs.Hex.{is_digit, digit_value, digit}
+use Rattle.hex_digits.proofs.Table.{below, at}
+use Rattle.hex_digits.specs.Hex.{is_digit, digit_value, digit}
 
 pub below_digits : (b : ℕ) → b < 0x30 → is_digit b ≡ false
 unfolding is_digit

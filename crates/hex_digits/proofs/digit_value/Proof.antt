@@ -1,11 +1,11 @@
--- `hex::digit_value` meets its contract: each arm of the match is a range of bytes, which says what
+-- `hex_digits::digit_value` meets its contract: each arm of the match is a range of bytes, which says what
 -- a byte in it is read as. Assumes nothing.
 use borrow.Author.Rules.{rules}
 use native.Mathlib.Omega.{arith}
-use Rattle.hex.proofs.Digits.{below_digits, between_digits, above_digits, decimal, capital, decimal_value, capital_value}
-use Rattle.hex.proofs.Parse.{refused, taken}
-use Rattle.hex.proofs.digit_value.Statement.{statement}
-use Rattle.hex.proofs.digit_value.Tie as tie
+use Rattle.hex_digits.proofs.Digits.{below_digits, between_digits, above_digits, decimal, capital, decimal_value, capital_value}
+use Rattle.hex_digits.proofs.Parse.{refused, taken}
+use Rattle.hex_digits.proofs.digit_value.Statement.{statement}
+use Rattle.hex_digits.proofs.digit_value.Tie as tie
 
 pub digit_value_spec : {M : Type 1} → statement M
 digit_value_spec =

@@ -1,9 +1,11 @@
 // Capital hexadecimal digits: a byte read as a digit, the digit of a value, and a table of the two
 // digits of each byte.
+#![tactic(auto)]
+
 ghost use Rattle.std.specs.Prelude.{◌≡◌, ◌%◌, ◌≤◌};
-ghost use Rattle.hex.specs.Parsed.{ParsedOutcome};
-ghost use Rattle.hex.specs.Hex.{is_digit, digit_value, digit};
-ghost use Rattle.hex.specs.Pairs.{DigitPairs};
+ghost use Rattle.hex_digits.specs.Parsed.{ParsedOutcome};
+ghost use Rattle.hex_digits.specs.Hex.{is_digit, digit_value, digit};
+ghost use Rattle.hex_digits.specs.Pairs.{DigitPairs};
 
 // Bytes read as a number, or refused.
 #[derive(Drop)]

@@ -7,9 +7,9 @@ use Prim.Native.Nat.{ℕ, ◌+◌, ◌*◌, ◌/◌, ◌%◌, ◌<◌}
 use native.Mathlib.Numerals.{add-one}
 use native.Mathlib.Omega.{arith}
 use lib.ListN.{get_or}
-use Rattle.hex.proofs.Table.{and_left, and_right}
-use Rattle.hex.specs.Hex.{is_digit, digit_value, digits, all_digits, number}
-use Rattle.hex.specs.Pairs.{DigitPairs}
+use Rattle.hex_digits.proofs.Table.{and_left, and_right}
+use Rattle.hex_digits.specs.Hex.{is_digit, digit_value, digits, all_digits, number}
+use Rattle.hex_digits.specs.Pairs.{DigitPairs}
 
 pub both_digits : (a : ℕ) (bs : List ℕ) → all_digits 2 a bs ≡ is_digit (get_or bs a 0) && is_digit (get_or bs (a + 1) 0)
 unfolding all_digits

@@ -14,9 +14,9 @@ use lib.Dec.{ltb}
 use lib.ListN.{length, drop, get_or, get_or-eq_default}
 use lib.Pow.{pow-add}
 use lib.Seq.{get_or-drop, drop-drop, drop-cons, drop_at}
-use Rattle.hex.proofs.Digits.{digit_from, digit_is_digit, value_of_digit, value_below, digit_of_value}
-use Rattle.hex.proofs.Table.{and_left, and_right}
-use Rattle.hex.specs.Hex.{is_digit, digit_value, digit, digits, all_digits, number}
+use Rattle.hex_digits.proofs.Digits.{digit_from, digit_is_digit, value_of_digit, value_below, digit_of_value}
+use Rattle.hex_digits.proofs.Table.{and_left, and_right}
+use Rattle.hex_digits.specs.Hex.{is_digit, digit_value, digit, digits, all_digits, number}
 
 -- if a file's bytes are known from a place on: what stands past some of them, and which byte stands at the place
 pub bytes_past : (a n : ℕ) (bs xs rest : List ℕ) → drop a bs ≡ xs ++ rest → length xs ≡ n → drop (a + n) bs ≡ rest

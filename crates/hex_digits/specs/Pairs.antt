@@ -1,6 +1,6 @@
 -- A table of the two digits of each byte, by which the digits of a number are written two at a time. These are definitions.
 use Rattle.std.specs.Prelude.{List, ◌≡◌, ℕ, ◌+◌, ◌*◌, ◌/◌, ◌%◌, ◌<◌, get_or}
-use Rattle.hex.specs.Hex.{digit}
+use Rattle.hex_digits.specs.Hex.{digit}
 
 -- the two digits of a byte b stand at 2 b and 2 b + 1 of a table
 pub record DigitPair (table : List ℕ) (b : ℕ) : Type 0 where

@@ -1,10 +1,10 @@
--- `hex::digit_of` meets its contract: the test is the definition's.
+-- `hex_digits::digit_of` meets its contract: the test is the definition's.
 -- Assumes nothing.
 use borrow.Author.Rules.{rules}
 use borrow.Author.Tests.{lt-ltb, le-ltb}
-use Rattle.hex.proofs.digit_of.Statement.{statement}
-use Rattle.hex.proofs.digit_of.Tie as tie
-use Rattle.hex.specs.Hex.{digit}
+use Rattle.hex_digits.proofs.digit_of.Statement.{statement}
+use Rattle.hex_digits.proofs.digit_of.Tie as tie
+use Rattle.hex_digits.specs.Hex.{digit}
 
 returns : tie.Need-returns
 unfolding digit
