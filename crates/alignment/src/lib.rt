@@ -14,7 +14,7 @@ ghost use Rattle.alignment.specs.Laid.{laid_at, LaidRight, ComparedSo, alignment
 ghost use Rattle.alignment.specs.Laid.{laid_after};
 
 // The pattern laid at a position: the position, the shift before it, and whether it is a repeat.
-#[derive(Drop)]
+#[derive(Clone, Copy)]
 pub struct Laid {
     pub position: usize,
     pub shift: usize,

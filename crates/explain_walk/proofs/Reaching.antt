@@ -3,7 +3,7 @@
 use mathlib.Core.List.{List, [], ◌∷◌, ◌++◌, append_assoc}
 use mathlib.Core.Logic.{◌≢◌}
 use mathlib.Core.Path.{◌≡◌, refl, sym, ◌∙◌, ap}
-use Prim.Native.Nat.{ℕ, suc, ◌+◌, ◌-◌, ◌≤◌, ◌<◌}
+use Prim.Native.Nat.{ℕ, suc, ◌+◌, ◌≤◌, ◌<◌}
 use native.Mathlib.Omega.{arith}
 use lib.ListN.{length}
 use Rattle.steps.proofs.Passed.{passed_spoilt}
@@ -20,7 +20,6 @@ use Rattle.alignment.specs.declared.Laid.{Laid}
 use Rattle.explain_meaning.proofs.Spoilt.{earliest_first, first_few, first_then, first_kept, none_along}
 use Rattle.explain_meaning.specs.Explanation.{first_spoilt}
 use Rattle.explain_walk.specs.Reach.{Reaching, ReachedAt}
-use Rattle.explain_walk.specs.declared.Reached.{Reached}
 
 module _ {w t : List ℕ} (taken : Taken w t) (b : ℕ) (in_text : b + length w ≤ span w t) where
   some : 1 ≤ length w

@@ -8,7 +8,7 @@ ghost use Rattle.run_state.specs.Progress.{Standing, Followed, PassedDiffering};
 use alignment::Laid;
 
 // Where the steps stand: how the pattern is laid next, and what they have counted so far.
-#[derive(Drop)]
+#[derive(Clone, Copy)]
 pub struct Progress {
     pub laid: Laid,
     pub occurrences: usize,

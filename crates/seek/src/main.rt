@@ -2,12 +2,11 @@
 #![tactic(auto)]
 
 ghost use Rattle.std.specs.Prelude.{false, ◌≡◌, List, ℕ, ◌≤◌, length, take};
-ghost use Rattle.io.specs.Counts.{IsPrefixLen};
 ghost use Rattle.report.specs.Promises.{input_room, ReadFrom, longest_report};
 ghost use Rattle.report.specs.Report.{seek_report};
 
-use libc::{STDERR_FILENO, STDIN_FILENO, STDOUT_FILENO};
 use report_lines::LONGEST_REPORT;
+use std::io::{Read, Write};
 
 // One byte more than the longest job file has, so that a longer file is told from it.
 const INPUT_ROOM: usize = 11 + 3 * (answers::LONGEST_PATTERN + answers::LONGEST_TEXT) + 1;
@@ -25,19 +24,24 @@ struct Input {
 // the buffer, and a full buffer is no failure. That these entries are the input's first bytes in
 // their order, and that `failed` tells of a read that failed, no contract says, since `read`
 // promises a count alone: the listing and the tests hold it.
-fn read_input(buf: &mut [u8]) -> Input
-    ensures counts { IsPrefixLen result.bytes buf.new }
+fn read_input<R: Read>(input: &mut R, buf: &mut [u8]) -> Input
+    ensures inside { result.bytes ≤ length buf.new }
+    ensures counts { result.bytes ≡ length (take result.bytes buf.new) }
     ensures full { result.bytes ≡ length buf.new → result.failed ≡ false }
 {
     let mut bytes = 0;
     while bytes < buf.len() {
-        let got = libc::read(STDIN_FILENO, &mut buf[bytes..]);
-        let more = io::count(got, &buf[bytes..]);
+        let more = match input.read(&mut buf[bytes..]) {
+            Ok(more) => more,
+            Err(_) => {
+                return Input {
+                    bytes,
+                    failed: true,
+                };
+            }
+        };
         if more == 0 {
-            return Input {
-                bytes,
-                failed: got < 0,
-            };
+            break;
         }
         bytes += more;
     }
@@ -55,7 +59,8 @@ fn report_of(read: &[u8], bytes: usize, out: &mut [u8]) -> usize
     requires size { length read.now ≡ input_room }
     requires inside { bytes ≤ length read.now }
     requires room { longest_report ≤ length out.old }
-    ensures counts { IsPrefixLen result out.new }
+    ensures inside { result ≤ length out.new }
+    ensures counts { result ≡ length (take result out.new) }
     ensures reported { (file : List ℕ) → ReadFrom read.now bytes file →
         take result out.new ≡ seek_report file }
 {
@@ -65,16 +70,16 @@ fn report_of(read: &[u8], bytes: usize, out: &mut [u8]) -> usize
 // Prints the report of standard input. Proved: it is safe and ends, and `report_of` writes the
 // report of every file that the buffer was read from (`ReadFrom`). That standard input is such a
 // file, and that the report is what goes out, no contract says: the listing and the tests hold it.
-fn main() {
+fn main(rt: HostRuntime) {
     let mut read: [u8; INPUT_ROOM] = [0; INPUT_ROOM];
-    let input = read_input(&mut read);
+    let input = read_input(&mut rt.stdin(), &mut read);
     if input.failed {
-        io::write_all(STDERR_FILENO, b"SEEK: standard input could not be read\n");
+        let _ = rt.stderr().write_all(b"SEEK: standard input could not be read\n");
         return;
     }
     let mut out: [u8; LONGEST_REPORT] = [0; LONGEST_REPORT];
     let bytes = report_of(&read, input.bytes, &mut out);
-    if !io::write_all(STDOUT_FILENO, &out[..bytes]) {
-        io::write_all(STDERR_FILENO, b"SEEK: the report could not be written\n");
+    if rt.stdout().write_all(&out[..bytes]).is_err() {
+        let _ = rt.stderr().write_all(b"SEEK: the report could not be written\n");
     }
 }

@@ -12,7 +12,7 @@ use lib.Dec.{eqb}
 use lib.IntN.{pos, negsuc}
 use lib.ListN.{length, get_or, length-map}
 use lib.Seq.{get_or_at}
-use Rattle.tables.proofs.Order.{second, third, rank_below, in_second, order_length, order_at}
+use Rattle.tables.proofs.Order.{rank_below, in_second, order_length, order_at}
 use Rattle.tables.specs.Tables.{h_min, k_min, second_group_from, second_group, third_group_from, third_group, order, stored_order}
 
 -- what the groups have from a number on

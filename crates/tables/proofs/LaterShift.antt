@@ -1,6 +1,6 @@
 -- The laws of Δ2: its facts (`Δ2_facts`), which fix it (`Δ2_is`); it is at least document 002's shift, r_min in the third group, the period at the end.
 -- m passes its test, so the least that passes does; a shift j below k_min or r_min is refuted by h_min(j), or is a period and refuted by the h that differed.
-use mathlib.Core.Bool.{Bool, true, false, ◌&&◌, ◌||◌, not, and-eq-true_iff}
+use mathlib.Core.Bool.{Bool, true, false, ◌&&◌, ◌||◌, and-eq-true_iff}
 use mathlib.Core.List.{List}
 use mathlib.Core.Logic.{◌⊎◌, ⊎_elim}
 use mathlib.Core.Path.{◌≡◌, refl, sym, ◌∙◌}

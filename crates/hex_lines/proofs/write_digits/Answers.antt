@@ -1,0 +1,49 @@
+-- `hex_lines::write_digits` meets its contract. The loop's invariant: the digits passed, the
+-- number's last ones, stand where they belong. The measure is how many digits are left.
+-- Assumes nothing.
+use Rattle.std.proofs.Common.{List, [], ◌∷◌, ◌≡◌, refl, ℕ, suc, ◌+◌, ◌-◌, ◌/◌, ◌%◌, ◌^◌, ◌<◌, arith}
+use Rattle.std.proofs.Math.ListN.{set, length-set}
+use Rattle.std.proofs.Math.Seq.{sets, set_comm}
+use Rattle.answers.proofs.Fronts.{from_entry_sets}
+use Rattle.hex_digits.proofs.Numbers.{length_digits}
+use Rattle.hex_digits.specs.Hex.{digit, digits}
+use Rattle.hex_lines.proofs.Lines.{digit_before, places_above}
+use Rattle.hex_lines.proofs.write_digits.Goals as goal
+
+-- a store below a run of stores
+set_below : (xs o : List ℕ) (i j d : ℕ) → j < i → set (sets o i xs) j d ≡ sets (set o j d) i xs
+set_below [] o i j d h = refl
+set_below (x ∷ xs) o i j d h = rw (set_below xs (set o i x) (suc i) j d (omega arith), set_comm o i j x d (λ e. omega arith))
+
+-- a turn: the digit before those passed
+turn : (o out : List ℕ) (number at left done rest d : ℕ)
+    → rest ≡ number / 16 ^ done
+    → out ≡ sets o (at + left) (digits done number)
+    → 0 < left
+    → d ≡ digit (rest % 16 % 16)
+    → set out (at + (left - 1)) d ≡ sets o (at + (left - 1)) (digits (suc done) number)
+turn o out number at left done rest d r e h q =
+    let next : at + left ≡ suc (at + (left - 1)) = omega arith in
+    rw (e, q, r, digit_before, next) (set_below (digits done number) o (suc (at + (left - 1))) (at + (left - 1)) _ (omega arith))
+
+pub loop-left-init : goal.loop-left-init
+unfolding digits
+loop-left-init c = (0, omega arith, omega arith, refl, refl)
+
+pub loop-left-preserved : goal.loop-left-preserved
+loop-left-preserved c =
+    let (done, _, places, _, stores) = c.loop-left.invariant in (
+      suc done,
+      omega arith,
+      rw (places, places_above done c.args.number),
+      simp length-set (omega arith),
+      turn _ _ c.args.number c.args.at c.loop-left.left done c.loop-left.rest _ places stores (omega arith) c.digit_of.ensures,
+    )
+
+pub returns-clause-written : goal.returns-clause-written
+returns-clause-written c =
+    let (done, _, _, _, stores) = c.loop-left.invariant in
+    let all : done ≡ c.args.count = omega arith in
+    let none : c.args.at + c.loop-left.left ≡ c.args.at = omega arith in
+    let number = digits c.args.count c.args.number in
+    rw (rw (all, none) at stores) (from_entry_sets c.args.at number c.args.out.now (rw length_digits (omega arith)))

@@ -1,0 +1,11 @@
+use Rattle.std.proofs.Common.{◌≡◌, ◌-◌, length}
+use Rattle.tables.specs.Least.{all_from}
+use Rattle.rules_claims.specs.Claims.{rule}
+use Rattle.rules_meet.specs.Meeting.{agree_at}
+use Rattle.rules_meet.proofs.can_meet.Given as goal
+
+-- the patterns agree everywhere just where they do from j on
+abbrev pub invariant-loop-j : goal.invariant-loop-j
+invariant-loop-j l =
+    all_from (length l.pattern) 0 (agree_at (rule l.pattern l.hold_offset) (rule l.other l.other_offset))
+    ≡ all_from (length l.pattern - l.j) l.j (agree_at (rule l.pattern l.hold_offset) (rule l.other l.other_offset))
