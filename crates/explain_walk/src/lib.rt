@@ -73,9 +73,7 @@ fn pass_occurrences(
     let repeat = here.repeat;
     let count = alignment::row_length(pattern, p, repeat);
     let mut next = here;
-    while next.position + m <= b
-        && alignment::agreeing(pattern, text, order, p, Laid { ..next }) == count
-    {
+    while next.position + m <= b && alignment::agreeing(pattern, text, order, p, next) == count {
         next = Laid {
             position: next.position + p,
             shift: p,
@@ -108,17 +106,8 @@ fn approach(
         repeat: false,
     };
     while here.position + m <= b {
-        let agreed = alignment::agreeing(pattern, text, order, p, Laid { ..here });
-        let next = alignment::laid_after(
-            pattern,
-            text,
-            delta2,
-            delta1,
-            delta3,
-            p,
-            Laid { ..here },
-            agreed,
-        );
+        let agreed = alignment::agreeing(pattern, text, order, p, here);
+        let next = alignment::laid_after(pattern, text, delta2, delta1, delta3, p, here, agreed);
         here = if agreed == alignment::row_length(pattern, p, here.repeat) {
             pass_occurrences(pattern, text, order, p, next, b)
         } else {
@@ -176,20 +165,11 @@ pub fn reach(
     let mut here = approach(pattern, text, order, delta2, delta1, delta3, p, b);
     let mut spoilt = m;
     loop {
-        let agreed = alignment::agreeing_around(pattern, text, order, p, Laid { ..here });
+        let agreed = alignment::agreeing_around(pattern, text, order, p, here);
         if spoilt == m {
-            spoilt = spoilt_by(pattern, text, order, p, Laid { ..here }, agreed, b);
+            spoilt = spoilt_by(pattern, text, order, p, here, agreed, b);
         }
-        let next = alignment::laid_after(
-            pattern,
-            text,
-            delta2,
-            delta1,
-            delta3,
-            p,
-            Laid { ..here },
-            agreed,
-        );
+        let next = alignment::laid_after(pattern, text, delta2, delta1, delta3, p, here, agreed);
         if b < next.position {
             return Reached {
                 laid: here,

@@ -15,7 +15,7 @@ use hex_lines::LINE_END;
 use job::ReadAnswer;
 
 // What a job's first line gives: the edition, m, q and n.
-#[derive(Drop)]
+#[derive(Clone, Copy)]
 pub struct Fields {
     pub edition: usize,
     pub m: usize,

@@ -8,7 +8,7 @@ use answers::Answer;
 
 // What is told of one rule.
 #[repr(C)]
-#[derive(Drop)]
+#[derive(Clone, Copy)]
 pub struct RuleAnswer {
     // the finds, h
     pub occurrences: u32,

@@ -74,12 +74,16 @@ fn main(rt: HostRuntime) {
     let mut read: [u8; INPUT_ROOM] = [0; INPUT_ROOM];
     let input = read_input(&mut rt.stdin(), &mut read);
     if input.failed {
-        let _ = rt.stderr().write_all(b"SEEK: standard input could not be read\n");
+        let _ = rt
+            .stderr()
+            .write_all(b"SEEK: standard input could not be read\n");
         return;
     }
     let mut out: [u8; LONGEST_REPORT] = [0; LONGEST_REPORT];
     let bytes = report_of(&read, input.bytes, &mut out);
     if rt.stdout().write_all(&out[..bytes]).is_err() {
-        let _ = rt.stderr().write_all(b"SEEK: the report could not be written\n");
+        let _ = rt
+            .stderr()
+            .write_all(b"SEEK: the report could not be written\n");
     }
 }

@@ -9,9 +9,10 @@ use Rattle.answers.proofs.rule_status.Goals.{then-m-eq0-via-then-m-eq0, then-m-e
 pub returns-then-m-eq0 : goal.returns-then-m-eq0
 unfolding first_of
 returns-then-m-eq0 c =
-    elim c.then-m-eq0.branch
-    [ then-m-eq0-via-then-m-eq0 w ↦ simp (eq-eqb _ _ w.if-m-eq0.true)
-    | then-m-eq0-via-else-m-eq0+then-m-gt-LONGEST_PATTERN w ↦ simp (ne_eqb _ _ w.if-m-eq0.false, lt-ltb _ _ w.if-m-gt-LONGEST_PATTERN.true) ]
+    elim c.then-m-eq0.branch [
+      | then-m-eq0-via-then-m-eq0 w ↦ simp (eq-eqb _ _ w.if-m-eq0.true)
+      | then-m-eq0-via-else-m-eq0+then-m-gt-LONGEST_PATTERN w ↦ simp (ne_eqb _ _ w.if-m-eq0.false, lt-ltb _ _ w.if-m-gt-LONGEST_PATTERN.true)
+    ]
 
 pub returns-then-m-hold_offset : goal.returns-then-m-hold_offset
 unfolding first_of

@@ -12,8 +12,8 @@ pub loop-at-preserved : goal.loop-at-preserved
 loop-at-preserved c = record {
   inside = omega arith;
   written =
-    rw (c.write_block.ensures, c.block_at-block.ensures)
-        (one_block_more c.args.bytes.now _ _ c.loop-at.at (omega arith) c.loop-at.invariant.written);
+      rw (c.write_block.ensures, c.block_at-block.ensures)
+      (one_block_more c.args.bytes.now _ _ c.loop-at.at (omega arith) c.loop-at.invariant.written);
 }
 
 pub returns-clause-copied : goal.returns-clause-copied
