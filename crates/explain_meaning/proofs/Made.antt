@@ -1,6 +1,6 @@
 -- An alignment that the search makes: what it shows along its row, whether it is an occurrence and
 -- a repeat (`RepeatsMeant`), and the one kind of its shift. By the laws of one step and the tests.
-use mathlib.Core.Bool.{Bool, true, false}
+use mathlib.Core.Bool.{Bool, false}
 use mathlib.Core.List.{List}
 use mathlib.Core.Logic.{⊎_elim}
 use mathlib.Core.Path.{◌≡◌, sym, ◌∙◌, ap}

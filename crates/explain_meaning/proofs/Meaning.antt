@@ -2,7 +2,7 @@
 -- alignment that reaches it tells. The comparisons decide it (`ComparisonsExplain`).
 use mathlib.Core.Bool.{Bool, true, false, true≢false}
 use mathlib.Core.List.{List, [], ◌∷◌, ◌++◌}
-use mathlib.Core.Logic.{◌≢◌, ⊎_elim}
+use mathlib.Core.Logic.{⊎_elim}
 use mathlib.Core.Path.{◌≡◌, refl, sym, ◌∙◌, ap}
 use Prim.Native.Nat.{ℕ, ◌+◌, ◌≤◌, ◌<◌}
 use native.Mathlib.Nat.{eq-or-lt_of_le}
@@ -19,7 +19,7 @@ use Rattle.steps.proofs.Runs.{Follow, comparisons_split, follow_from, follows, r
 use Rattle.steps.proofs.Steps.{step_row}
 use Rattle.steps.specs.Occurrences.{occurs}
 use Rattle.steps.specs.Promises.{PassedSpoilt, Spoilt, SameAt, ComparisonsDecide}
-use Rattle.steps.specs.Steps.{Comparison, Alignment, row, step, is_occurrence, alignments, comparisons_of}
+use Rattle.steps.specs.Steps.{Comparison, Alignment, is_occurrence, alignments, comparisons_of}
 use Rattle.explain_meaning.proofs.Made.{stepped, occurring, ends, shifts_so, shifts_only}
 use Rattle.explain_meaning.proofs.Spoilt.{earliest_first, first_earliest}
 use Rattle.explain_meaning.specs.Explanation.{kind_of, spoils, first_spoilt, where_laid, explained_by, explanation}

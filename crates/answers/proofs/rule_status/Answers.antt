@@ -1,8 +1,7 @@
 -- `answers::rule_status` meets its contract: at each return the tests on the way are those of the refusals, in their order.
 -- Assumes nothing.
-use Rattle.std.proofs.Common.{◌≡◌, false}
 use borrow.Author.Tests.{le-leb, lt-leb, eq-eqb, ne_eqb, lt-ltb, le-ltb}
-use Rattle.answers.specs.Refusals.{first_of, pattern_refusal}
+use Rattle.answers.specs.Refusals.{first_of}
 use Rattle.answers.proofs.rule_status.Goals as goal
 use Rattle.answers.proofs.rule_status.Goals.{then-m-eq0-via-then-m-eq0, then-m-eq0-via-else-m-eq0+then-m-gt-LONGEST_PATTERN}
 
