@@ -67,9 +67,9 @@ pub fn search_all(
         let searched = search_part(
             pattern, text, bytes, i, earlier, order, delta2, delta1, delta3, found,
         );
-        answers[i] = rules_answers::told(searched);
         bytes += pattern.len();
         earlier += searched.occurrences as usize;
+        answers[i] = rules_answers::told(searched);
     }
     answers
 }

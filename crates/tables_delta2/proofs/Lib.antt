@@ -1,2 +1,4 @@
 pub mod Links
 pub mod Ordered
+pub mod Linking
+pub mod Values

@@ -3,7 +3,7 @@ use mathlib.Core.List.{List}
 use mathlib.Core.Path.{◌≡◌, ap}
 use Prim.Native.Nat.{ℕ, ◌+◌, ◌≤◌, ◌<◌}
 use native.Mathlib.Omega.{arith}
-use lib.IntN.{ℤ, pos}
+use lib.IntN.{ℤ, pos, nat_abs}
 use lib.ListN.{length, get_or, length-take}
 use lib.Seq.{get_or-take}
 use mir.Syntax.{w16}
@@ -31,3 +31,13 @@ read {w} {o} s i l =
     let small : get_or (order w) i 0 < 128 = omega (arith, s.taken.few) in
     let there = rw (← s.stored, get_or-take (length w + 1) o i (pos 0) (omega arith)) at (stored_order_entry w i inside) in
     record { back = rw there (to_z_pos w16 (get_or (order w) i 0) (omega arith)); below = below; small = small }
+
+-- the number that the code takes from entry i
+abbrev pub read_at : (o : List ℤ) (i : ℕ) → ℕ
+read_at o i = nat_abs (to_z w16 (of_z w16 (get_or o i (pos 0))))
+
+pub read_is : {w : List ℕ} {o : List ℤ} → OrderStored w o → (i : ℕ) → i < length w → get_or (order w) i 0 ≡ read_at o i
+read_is s i l = let at = read s i l in rw at.back
+
+pub read_below : {w : List ℕ} {o : List ℤ} → OrderStored w o → (i : ℕ) → i < length w → read_at o i < length w
+read_below s i l = let at = read s i l in rw at.back at.below

@@ -1,5 +1,5 @@
--- `link` meets its contract. The loop's invariant: the positions below i are linked, and the rows' ends are right for them.
--- Assumes nothing.
+-- `link` meets its contract. The loop's invariant: the positions below i are linked, and the rows'
+-- ends are right for them. Assumes nothing.
 use Rattle.std.proofs.Common.{List, ℕ, ◌≡◌, ◌+◌, ◌*◌, ◌-◌, ◌≤◌, ◌<◌, length, get_or, arith}
 use Rattle.tables_delta1.proofs.Grid.{row_end}
 use Rattle.tables_delta1.proofs.Links.{end_entry, link_added, end_added}

@@ -1,5 +1,5 @@
--- `write_delta1` meets its contract: the table is written in front, and the other entries are not lent.
--- Assumes nothing.
+-- `write_delta1` meets its contract: the table is written in front, and the other entries are not
+-- lent. Assumes nothing.
 use Rattle.answers.specs.Buffers.{in_front}
 use Rattle.tables.proofs.Stored.{stored_Δ1_length}
 use Rattle.tables_delta1.proofs.write_delta1.Goals as goal

@@ -1,5 +1,5 @@
--- `write_row` meets its contract. The loop's invariant: the positions from `at` on have lowered the row.
--- Assumes nothing.
+-- `write_row` meets its contract. The loop's invariant: the positions from `at` on have lowered the
+-- row. Assumes nothing.
 use Rattle.std.proofs.Common.{List, ℕ, ◌≡◌, ◌+◌, ◌-◌, ◌<◌, length, get_or, sym, arith}
 use native.Mathlib.Nat.{add-sub_cancel, add-sub_cancel_left}
 use Rattle.tables_delta1.proofs.Links.{last_within}

@@ -1,5 +1,5 @@
--- `write_rows` meets its contract. The loop's invariant: the rows are right of which the last position that has the byte is below i.
--- Assumes nothing.
+-- `write_rows` meets its contract. The loop's invariant: the rows are right of which the last
+-- position that has the byte is below i. Assumes nothing.
 use Rattle.std.proofs.Common.{◌≡◌, ◌-◌, ◌<◌, length, arith}
 use native.Mathlib.Nat.{add-sub_cancel_left}
 use Rattle.tables_delta1.proofs.Table.{table_first, table_right, row_begun, row_written, row_passed}

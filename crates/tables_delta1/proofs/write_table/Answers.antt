@@ -1,5 +1,5 @@
--- `write_table` meets its contract: the table is filled with m, the links give the rows' ends, and the rows follow.
--- Assumes nothing.
+-- `write_table` meets its contract: the table is filled with m, the links give the rows' ends, and
+-- the rows follow. Assumes nothing.
 use Rattle.std.proofs.Common.{arith}
 use lib.ListN.{get_or-replicate}
 use Rattle.tables_delta1.proofs.Links.{filled_ends}
