@@ -1,5 +1,5 @@
--- `restore_conversions::rest_matches` meets its contract. The loop's invariant: the positions before
--- b are walked over. Assumes nothing.
+-- `restore_conversions::rest_matches` meets its contract. The loop's invariant: the positions
+-- before b are walked over. Assumes nothing.
 use Rattle.std.proofs.Common.{sym, add-one, arith}
 use Rattle.tables.proofs.Cases.{unequal, equal}
 use Rattle.restore_prefixes.proofs.Walk.{prefix_within}
