@@ -45,7 +45,7 @@ module _ (c : Joined-i-count) where
         | then-i-count x ↦
             c.loop-i.invariant.shown
             (omega (arith, x.if-i-count.true, c.row_length-count.ensures, row_some c.args.pattern.now c.alignments.run.laid.repeat taken.some))
-        | else-i-count+else-text-b+then-pattern-at x ↦ x.if-text-b.false
+        | else-i-count+else-text-b+then-pattern-at x ↦ omega (arith, x.if-text-b.false, taken.some)
       ]
 
   -- and so many of them agree
@@ -103,7 +103,7 @@ loop-i-preserved c = record {
       (omega (arith, c.loop-i.invariant.along.within, c.row_length-count.ensures))
       c.row_entry-at.ensures
       (c.if-pattern-at.false ∙ c.byte_at.ensures);
-  shown = λ some. c.if-text-b.false;
+  shown = λ some. omega (arith, c.requires.ready.shifts.tables.taken.some);
 }
 
 pub move_around-run-requires-clause-ready : goal.move_around-run-requires-clause-ready
