@@ -1,6 +1,6 @@
-//! Tells cargo where the static library is that `rt staticlib ruffarmoire` writes at the repository's
-//! root, and whether the program is there that `rt check` writes. library/ruffarmoire.rs names the
-//! archive that it links (`#[link]`), so the model's own tests need none.
+//! Tells cargo where the static library is that `tools/build` writes at the repository's root, and
+//! whether the program is there that it writes. library/ruffarmoire.rs names the archive that it
+//! links (`#[link]`), so the model's own tests need none.
 
 use std::path::Path;
 
@@ -17,21 +17,21 @@ fn main() {
     println!("cargo::rerun-if-changed=build.rs");
     println!("cargo::rustc-link-search=native={}", archives.display());
     let archive = archives.join(format!("lib{ARCHIVE}.a"));
-    tell("archive", ARCHIVE, &archive, "rt staticlib");
+    tell("archive", ARCHIVE, &archive);
     let program = target.join("bin").join(PROGRAM);
-    tell("program", PROGRAM, &program, "rt check");
+    tell("program", PROGRAM, &program);
 }
 
 /// Sets `cfg(KIND = "NAME")` where the file is there, and warns where it is not.
-fn tell(kind: &str, name: &str, file: &Path, command: &str) {
+fn tell(kind: &str, name: &str, file: &Path) {
     println!("cargo::rerun-if-changed={}", file.display());
     println!("cargo::rustc-check-cfg=cfg({kind}, values(\"{name}\"))");
     if file.is_file() {
         println!("cargo::rustc-cfg={kind}=\"{name}\"");
     } else {
         println!(
-            "cargo::warning=the {kind} {name} is missing: run `{command} {name}` at the \
-             repository's root before its tests"
+            "cargo::warning=the {kind} {name} is missing: run `tools/build` at the repository's \
+             root before its tests"
         );
     }
 }

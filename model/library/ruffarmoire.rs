@@ -1,4 +1,4 @@
-//! The twenty-two calls of the Rattle library, as `rt staticlib ruffarmoire` builds it. The calls
+//! The twenty-two calls of the Rattle library, as `tools/build` builds it. The calls
 //! take any arguments, so the safe functions here only turn slices into pointers and lengths;
 //! `explained`, `explained_by_rule` and `explained_as` also read the answers of `explain`,
 //! `explain_rule` and `explain_as`. `Rules` is a table of rules, for the calls that take one.
@@ -16,7 +16,7 @@
 
 #[cfg(not(archive = "ruffarmoire"))]
 compile_error!(
-    "target/staticlib/libruffarmoire.a is missing. Run `rt staticlib ruffarmoire` at the repository's root first."
+    "target/staticlib/libruffarmoire.a is missing. Run `tools/build` at the repository's root first."
 );
 
 use std::ops::Deref;

@@ -31,7 +31,7 @@
 //! # Commands
 //!
 //! In this folder. Those of the library and of SEEK need, at the repository's root and first,
-//! `rt staticlib ruffarmoire` and `rt check seek`.
+//! `tools/build`.
 //!
 //! - `cargo test --release --lib --test worked_examples --test rule_examples --test role_examples
 //!   --test consistency --test shifts`: the model's own tests.

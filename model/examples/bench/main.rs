@@ -1,7 +1,7 @@
 //! The speed of the Rattle library and of SEEK, beside plain Rust versions with the same contracts
 //! and beside other ways to the same end; and the number of comparisons beside document 002's.
 //!
-//!     rt staticlib ruffarmoire; rt check seek    (at the repository's root)
+//!     tools/build                                (at the repository's root)
 //!     cargo run --release --example bench        (in this folder; all of it)
 //!     cargo run --release --example bench -- search program    (only these parts)
 //!
