@@ -1,5 +1,5 @@
--- What a call answers and leaves, by whether it is refused: it answers its status, a refused call leaves what was there, and a call that answers 0 is done.
--- By cases on the status.
+-- What a call answers and leaves, by whether it is refused: it answers its status, a refused call leaves what was there, and a
+-- call that answers 0 is done; and that an answer of zeros is that of a call that is done. By cases on the status.
 use mathlib.Core.Path.{◌≡◌, refl, ap}
 use Prim.Native.Nat.{ℕ, zero, suc}
 use native.Mathlib.Omega.{arith}
@@ -25,3 +25,16 @@ pub done_only : (s : ℕ) (done : Answer) {r : Answer} → r ≡ answered s done
 unfolding answered if_done
 done_only zero done h e = refl
 done_only (suc s) done h e = absurd (omega (arith, ap (λ (a : Answer). a.status) h))
+
+-- an answer of zeros is that of a call that is done and answers its status alone
+made :
+    (make : (s o c n p b : ℕ) → Answer) {s o c n p b : ℕ} → s ≡ 0 → o ≡ 0 → c ≡ 0 → n ≡ 0 → p ≡ 0 → b ≡ 0 →
+    make s o c n p b ≡ make 0 0 0 0 0 0
+made make s o c n p b = cc
+
+pub zeros :
+    {r : Answer} →
+    (r.status ≡ 0) × ((r.occurrences ≡ 0) × ((r.comparisons ≡ 0) × ((r.ones ≡ 0) × ((r.period ≡ 0) × (r.bound ≡ 0))))) →
+    r ≡ status_only 0
+zeros (s, (o, (c, (n, (p, b))))) =
+    made (λ s o c n p b. record { status = s; occurrences = o; comparisons = c; ones = n; period = p; bound = b }) s o c n p b

@@ -3,3 +3,4 @@ pub mod Fronts
 pub mod Refusals
 pub mod Answered
 pub mod Partly
+pub mod Reasons

@@ -3,3 +3,4 @@ pub mod Promises
 pub mod Answers
 pub mod Buffers
 pub mod Bytes
+pub mod Reasons

@@ -1,9 +1,10 @@
-// What every call answers, beside what a call adds of its own, and the refusals that whoever drew
-// the job can cause.
+// What every call answers, beside what a call adds of its own; why a call is refused; and the tests
+// for what whoever drew the job can cause. A test that lets a call pass is `Ok`.
 #![tactic(auto)]
 
 ghost use Rattle.std.specs.Prelude.{◌≡◌, [], ◌∷◌};
 ghost use Rattle.answers.specs.Answers.{status_only, prepared, searched, converted, counted};
+ghost use Rattle.answers.specs.Reasons.{number_of, status_of};
 ghost use Rattle.answers.specs.Refusals.{first_of, text_refusal, rule_refusals, job_refusals};
 
 // The most bytes (cards) of a pattern (motif).
@@ -12,10 +13,41 @@ pub const LONGEST_PATTERN: usize = 128;
 // The most bytes (cards) of a text (chain).
 pub const LONGEST_TEXT: usize = 16384;
 
+// Why a call is refused. Each reason has its number in document 01 or 02, which C sees.
+#[derive(Clone, Copy, Debug, PartialEq, Eq)]
+pub enum Reason {
+    // a file under 11 bytes, or not of the length that its first line gives
+    FileLength = 1,
+    // a byte that is not the digit or line end due there
+    WrongByte = 2,
+    // an edition other than 1
+    Edition = 3,
+    // m is 0 or above 128
+    PatternLength = 4,
+    // the hold offset (hold place) is not below m
+    HoldOffset = 5,
+    // n above 16,384
+    TextLength = 6,
+    // a buffer of the caller has fewer entries than are needed
+    ShortBuffer = 7,
+    // a way of turning above 3
+    Way = 8,
+    // frames that are no conversion
+    NoConversion = 9,
+    // a position of n or more
+    Position = 10,
+    // no rules or more than 16, or a number that is no rule of the table
+    RuleNumber = 11,
+    // two rules claim one byte (card)
+    ClaimedTwice = 12,
+    // a role above 2, or a job that is not permitted to it
+    Role = 13,
+}
+
 // Document 01's answer, with document 02's period and bound. What a call does not work out is 0 in
 // it, and a refused call answers zeros beside its status.
 #[repr(C)]
-#[derive(Drop)]
+#[derive(Clone, Copy, Debug, Default, PartialEq, Eq)]
 pub struct Answer {
     // the number: 0 for done, or that of the refusal
     pub status: u32,
@@ -31,17 +63,23 @@ pub struct Answer {
     pub bound: u32,
 }
 
-// The answer of a call that answers its status alone.
+// The answer of a call that answers its status alone. It is there beside `From`: it promises this
+// of every number.
 pub fn status_only(status: u32) -> Answer
     ensures { result ≡ status_only status }
 {
     Answer {
         status,
-        occurrences: 0,
-        comparisons: 0,
-        ones: 0,
-        period: 0,
-        bound: 0,
+        ..Answer::default()
+    }
+}
+
+// The answer of a call that is refused.
+impl From<Reason> for Answer {
+    ghost from_gives = { λ reason answer. answer ≡ status_only (number_of reason) };
+
+    fn from(reason: Reason) -> Answer {
+        status_only(reason as u32)
     }
 }
 
@@ -50,12 +88,8 @@ pub fn prepared(period: u32) -> Answer
     ensures { result ≡ prepared period }
 {
     Answer {
-        status: 0,
-        occurrences: 0,
-        comparisons: 0,
-        ones: 0,
         period,
-        bound: 0,
+        ..Answer::default()
     }
 }
 
@@ -64,12 +98,11 @@ pub fn searched(occurrences: u32, comparisons: u32, period: u32, bound: u32) -> 
     ensures { result ≡ searched occurrences comparisons period bound }
 {
     Answer {
-        status: 0,
         occurrences,
         comparisons,
-        ones: 0,
         period,
         bound,
+        ..Answer::default()
     }
 }
 
@@ -78,14 +111,7 @@ pub fn searched(occurrences: u32, comparisons: u32, period: u32, bound: u32) -> 
 pub fn converted(search: Answer, ones: u32) -> Answer
     ensures { result ≡ converted search ones }
 {
-    Answer {
-        status: search.status,
-        occurrences: search.occurrences,
-        comparisons: search.comparisons,
-        ones,
-        period: search.period,
-        bound: search.bound,
-    }
+    Answer { ones, ..search }
 }
 
 // The answer of a call that has counted the ones of a text.
@@ -93,45 +119,38 @@ pub fn counted(ones: u32) -> Answer
     ensures { result ≡ counted ones }
 {
     Answer {
-        status: 0,
-        occurrences: 0,
-        comparisons: 0,
         ones,
-        period: 0,
-        bound: 0,
+        ..Answer::default()
     }
 }
 
-// 4 and 5 in their order, or 0. A call that takes no hold offset (hold place) passes 0.
-pub fn rule_status(m: usize, hold_offset: usize) -> u32
-    ensures { result ≡ first_of (rule_refusals m hold_offset) }
+// 4 and 5 in their order. A call that takes no hold offset (hold place) passes 0.
+pub fn check_rule(m: usize, hold_offset: usize) -> Result<(), Reason>
+    ensures { status_of result ≡ first_of (rule_refusals m hold_offset) }
 {
     if m == 0 || LONGEST_PATTERN < m {
-        return 4;
+        return Err(Reason::PatternLength);
     }
     if m <= hold_offset {
-        return 5;
+        return Err(Reason::HoldOffset);
     }
-    0
+    Ok(())
 }
 
-// 6, or 0.
-pub fn text_status(n: usize) -> u32
-    ensures { result ≡ first_of (text_refusal n ∷ []) }
+// 6.
+pub fn check_text(n: usize) -> Result<(), Reason>
+    ensures { status_of result ≡ first_of (text_refusal n ∷ []) }
 {
     if LONGEST_TEXT < n {
-        return 6;
+        return Err(Reason::TextLength);
     }
-    0
+    Ok(())
 }
 
-// 4, 5 and 6 in their order, or 0. A call that takes no text (chain) passes 0 for n.
-pub fn job_status(m: usize, hold_offset: usize, n: usize) -> u32
-    ensures { result ≡ first_of (job_refusals m hold_offset n) }
+// 4, 5 and 6 in their order. A call that takes no text (chain) passes 0 for n.
+pub fn check_job(m: usize, hold_offset: usize, n: usize) -> Result<(), Reason>
+    ensures { status_of result ≡ first_of (job_refusals m hold_offset n) }
 {
-    let status = rule_status(m, hold_offset);
-    if status != 0 {
-        return status;
-    }
-    text_status(n)
+    check_rule(m, hold_offset)?;
+    check_text(n)
 }

@@ -1,4 +1,5 @@
-// Conversion to frames: the search, then the moves and the holds.
+// Conversion to frames: the search, then the moves and the holds. The buffers stand apart, as C
+// lends them.
 #![tactic(auto)]
 
 ghost use Rattle.convert.specs.Convert.{ConvertOutcome};
@@ -48,9 +49,8 @@ pub fn convert(
     let hold_offset = hold_offset as usize;
     let n = text.len();
     let short = (found.len() < n) | (frames.len() < n);
-    let status = tables::status(pattern.len(), hold_offset, n, lengths, short);
-    if status != 0 {
-        return answers::status_only(status);
+    if let Err(reason) = tables::check(pattern.len(), hold_offset, n, lengths, short) {
+        return Answer::from(reason);
     }
     let searched = search::search_within(pattern, text, order, delta2, delta1, delta3, found);
     write_frames(searched, hold_offset, text, found, frames)

@@ -50,14 +50,14 @@ pub record ConversionTaken (x t : List ℕ) (l : TableLengths) (found_len frames
   pub found_room : length t ≤ found_len
   pub frames_room : length t ≤ frames_len
 
--- a status of 0 says so
+-- a measured status of 0 says so
 pub conversion_taken :
-    {x t : List ℕ} {l : TableLengths} {found frames : ℕ} → length x ≡ table_size →
-    convert_rules_status x t l found frames ≡ 0 →
-    ConversionTaken x t l found frames
+    {x t : List ℕ} {found frames : ℕ} {l l' : TableLengths} → length x ≡ table_size →
+    0 ≡ measured_status x t l (ltb found (length t) || ltb frames (length t)) → l ≡ l' →
+    ConversionTaken x t l' found frames
 unfolding convert_rules_status
-conversion_taken {x} {t} {l} size e =
-    let m = search_taken x t l _ size (omega arith) e in
+conversion_taken {x} {t} {found} {frames} size measured e =
+    let m = search_taken x t _ _ size (omega arith) (sym (status_is x t found frames measured e)) in
     record {
       measured = m;
       found_room = ltb-false _ _ m.own_room.0;
@@ -89,7 +89,6 @@ module _
         let all = one_after_another (found_of t) (rules_of x) in
         let m = fit.measured in
         record {
-          taken = m.table;
           told = searched.answers;
           listed = rw searched.occurrences_left (in_front_take all found (length all) refl);
           few = few_found (rules_of x) t (λ none. table_patterned x m.table) m.once;

@@ -8,6 +8,7 @@ use rules_answers::RulesAnswer;
 
 // Converts a text (chain) to frames by a table of rules, each a pattern (motif) and a hold offset
 // (hold place).
+// The buffers stand apart, as C lends them.
 pub fn convert_rules(
     rules: &[u8; 2081],
     text: &[u8],
@@ -26,12 +27,12 @@ pub fn convert_rules(
     let lengths = tables::lengths(order, delta2, delta1, delta3);
     let n = text.len();
     let short = (found.len() < n) | (frames.len() < n);
-    let status = rules_status::status(rules, text, lengths, short);
-    if status != 0 {
-        return rules_answers::refused(status);
-    }
-    let answers = rules_searches::search_all(rules, text, order, delta2, delta1, delta3, found);
-    rules_frames::write_frames(rules, answers, text, found, frames);
+    let rules = match rules_status::check(rules, text, lengths, short) {
+        Ok(rules) => rules,
+        Err(reason) => return RulesAnswer::from(reason),
+    };
+    let answers = rules_searches::search_all(&rules, text, order, delta2, delta1, delta3, found);
+    rules_frames::write_frames(&rules, answers, text, found, frames);
     RulesAnswer {
         status: 0,
         ones: ones::ones_of(text),

@@ -1,10 +1,6 @@
--- Blocks of bytes. These are definitions.
-use Rattle.std.specs.Prelude.{List, ℕ, take, drop}
+-- Blocks of bytes. This is a definition.
+use Rattle.std.specs.Prelude.{ℕ}
 
--- how many bytes a block has
+-- how many bytes a block has: when bytes are copied in blocks, fewer than these may be left
 abbrev pub block_len : ℕ
 block_len = 2048
-
--- a block of bytes, from index `at` on
-abbrev pub block_at : (at : ℕ) → (bytes : List ℕ) → List ℕ
-block_at at bytes = take block_len (drop at bytes)

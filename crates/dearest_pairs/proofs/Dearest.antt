@@ -1,9 +1,10 @@
 -- The dearest pair of a size: none has a greater C, it has it, and every pair before it has less.
--- By induction on the pairs: the first either has the greatest C of all, or the greatest is that of the later ones.
+-- By induction on the pairs: the first either has the greatest C of all, or the greatest is that of
+-- the later ones.
 use mathlib.Core.Bool.{Bool, true, false}
 use mathlib.Core.List.{List, [], ◌∷◌, ◌++◌}
-use mathlib.Core.Path.{◌≡◌, refl, sym, ap, ◌∙◌}
-use Prim.Native.Nat.{ℕ, zero, suc, ◌+◌, ◌*◌, ◌^◌, ◌≤◌, ◌<◌, max}
+use mathlib.Core.Path.{◌≡◌, refl, ap}
+use Prim.Native.Nat.{ℕ, zero, suc, ◌+◌, ◌≤◌, ◌<◌}
 use native.Mathlib.Omega.{arith}
 use borrow.Author.Tests.{eqb-true, eqb-false}
 use lib.Dec.{eqb}
@@ -15,7 +16,7 @@ use Rattle.convert.specs.Paired.{EverySearchExact}
 use Rattle.dearest_pairs.proofs.Pairs.{place, inside, stands, every_pair}
 use Rattle.dearest_pairs.specs.Dearest.{cost, greatest, first_with, dearest}
 use Rattle.dearest_pairs.specs.Pairs.{Pair, pair, pairs}
-use Rattle.dearest_pairs.specs.Promises.{OfSize, EveryPair, AllBelow, DearestRight, CostAnswered}
+use Rattle.dearest_pairs.specs.Promises.{EveryPair, AllBelow, DearestRight, CostAnswered}
 
 -- none of some pairs has a greater C than the greatest
 pub none_greater : (xs : List Pair) (i : ℕ) (d : Pair) → i < length xs → cost (get_or xs i d) ≤ greatest xs

@@ -1,9 +1,10 @@
--- Every pair of a size comes once, in its order. The pair with pattern a and text b stands at place a * 2 ^ n + b: by induction on how
--- many patterns are left, each with as many texts; a place has one such a and b, and they are read off the pair.
-use mathlib.Core.List.{List, [], ◌∷◌, ◌++◌}
+-- Every pair of a size comes once, in its order. The pair with pattern a and text b stands at place
+-- a * 2 ^ n + b: by induction on how many patterns are left, each with as many texts; a place has
+-- one such a and b, and they are read off the pair.
+use mathlib.Core.List.{List, []}
 use mathlib.Core.Path.{◌≡◌, refl, sym, ap, ◌∙◌}
-use Prim.Native.Nat.{ℕ, zero, suc, ◌+◌, ◌*◌, ◌/◌, ◌%◌, ◌^◌, ◌≤◌, ◌<◌}
-use native.Mathlib.Nat.{mod-lt, suc-mul, add_comm, add_assoc}
+use Prim.Native.Nat.{ℕ, zero, suc, ◌+◌, ◌*◌, ◌/◌, ◌%◌, ◌^◌, ◌<◌}
+use native.Mathlib.Nat.{mod-lt, suc-mul, add_comm}
 use native.Mathlib.Omega.{arith}
 use lib.Arith.{digits_lt}
 use lib.ListN.{length, get_or, length-append, get_or-append}
@@ -11,7 +12,7 @@ use lib.Pow.{pow_pos, pow-add, shr_lt, split}
 use lib.Seq.{get_or-append-add}
 use Rattle.dearest_pairs.proofs.Numbers.{written_read, read_below, read_written, numbers_right}
 use Rattle.dearest_pairs.specs.Pairs.{Pair, pair, number, binary, texts_from, patterns_from, pairs}
-use Rattle.dearest_pairs.specs.Promises.{BinaryOf, OfSize, EachOnce, EveryPair}
+use Rattle.dearest_pairs.specs.Promises.{BinaryOf, OfSize, EveryPair}
 
 length_texts : (k r : ℕ) (w : List ℕ) (n : ℕ) → length (texts_from k r w n) ≡ k
 unfolding texts_from
@@ -66,7 +67,8 @@ at_place m n i d h = rw (split i n) at (pair_at m n (i / 2 ^ n) (i % 2 ^ n) d (s
 of_binary : (m n a b : ℕ) → OfSize m n (pair (binary m a) (binary n b))
 of_binary m n a b = record { pattern = numbers_right.written m a; text = numbers_right.written n b }
 
--- bytes of 00 and 01 are read as a number below 2 to the power of their number, and are those of that number
+-- bytes of 00 and 01 are read as a number below 2 to the power of their number, and are those of
+-- that number
 below : {k : ℕ} {bs : List ℕ} → BinaryOf k bs → number bs < 2 ^ k
 below {k} {bs} h = rw h.size at (read_below bs h.bits)
 

@@ -1,5 +1,5 @@
--- The dearest of some pairs: the first whose search makes the most comparisons (document 02, "The dearest job").
--- These are definitions.
+-- The dearest of some pairs: the first whose search makes the most comparisons (document 02, "The
+-- dearest job"). These are definitions.
 use Rattle.std.specs.Prelude.{cond, List, [], ◌∷◌, ℕ, max, eqb, length}
 use Rattle.steps.specs.Steps.{comparisons}
 use Rattle.dearest_pairs.specs.Pairs.{Pair, pair}

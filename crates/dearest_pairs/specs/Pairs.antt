@@ -25,7 +25,8 @@ unfoldable pub texts_from : (count r : ℕ) → (w : List ℕ) → (n : ℕ) →
 texts_from zero r w n = []
 texts_from (suc k) r w n = pair w (binary n r) ∷ texts_from k (suc r) w n
 
--- so many patterns of m bytes, rising from pattern v on, and within each every text of n bytes, rising from 0
+-- so many patterns of m bytes, rising from pattern v on, and within each every text of n bytes,
+-- rising from 0
 unfoldable pub patterns_from : (count v m n : ℕ) → List Pair
 patterns_from zero v m n = []
 patterns_from (suc k) v m n = texts_from (2 ^ n) 0 (binary m v) n ++ patterns_from k (suc v) m n

@@ -1,26 +1,26 @@
 // Why a position has no hold, as one call: the tables worked out anew, and the position explained
-// by them.
+// by them. The tables' buffers stand apart, as C lends them.
 #![tactic(auto)]
 
 ghost use Rattle.std.specs.Prelude.{◌≡◌};
+ghost use Rattle.answers.specs.Reasons.{status_of};
 ghost use Rattle.tables.specs.Buffers.{tables};
 ghost use Rattle.explain.specs.Explain.{explain_status, explain_status_of, ExplainOutcome};
 
+use alignment::Prepared;
+use answers::Reason;
 use explain_answers::ExplainAnswer;
 use tables::TableLengths;
 
-// The status of explaining: 4, 6 and 7, then 10.
-fn status_of(m: usize, n: usize, position: u32, lengths: TableLengths) -> u32
-    ensures { result ≡ explain_status m n position lengths }
+// What is measured before a position is explained: 4, 6 and 7, then 10.
+fn check(m: usize, n: usize, position: u32, lengths: TableLengths) -> Result<(), Reason>
+    ensures { status_of result ≡ explain_status m n position lengths }
 {
-    let status = tables::status(m, 0, n, lengths, false);
-    if status != 0 {
-        return status;
-    }
+    tables::check(m, 0, n, lengths, false)?;
     if n <= position as usize {
-        return 10;
+        return Err(Reason::Position);
     }
-    0
+    Ok(())
 }
 
 // Explains a position where nothing is left to measure.
@@ -40,9 +40,16 @@ pub fn explain_within(
         (tables order.new delta2.new delta1.new delta3.new) result }
 {
     let p = prepare::write_tables(pattern, order, delta2, delta1, delta3) as usize;
-    let b = position as usize;
-    let told = explain_position::explain_at(pattern, text, order, delta2, delta1, delta3, p, b);
-    explain_answers::explained(told)
+    let job = Prepared {
+        pattern,
+        text,
+        order,
+        delta2,
+        delta1,
+        delta3,
+    };
+    let told = explain_position::explain_at(&job, p, position as usize);
+    ExplainAnswer::from(told)
 }
 
 // Explains why a position of the text (place of the chain) has no hold. Tables that stand in the
@@ -61,9 +68,8 @@ pub fn explain(
         (tables order.new delta2.new delta1.new delta3.new) result }
 {
     let lengths = tables::lengths(order, delta2, delta1, delta3);
-    let status = status_of(pattern.len(), text.len(), position, lengths);
-    if status != 0 {
-        return explain_answers::refused(status);
+    if let Err(reason) = check(pattern.len(), text.len(), position, lengths) {
+        return ExplainAnswer::from(reason);
     }
     explain_within(position, pattern, text, order, delta2, delta1, delta3)
 }

@@ -3,25 +3,26 @@
 #![tactic(auto)]
 
 ghost use Rattle.std.specs.Prelude.{◌≡◌};
-ghost use Rattle.explain_answers.specs.Answer.{kind_number, explained, refused};
+ghost use Rattle.answers.specs.Reasons.{number_of};
+ghost use Rattle.explain_answers.specs.Answer.{explained, refused};
 
-use answers::Answer;
+use answers::{Answer, Reason};
 
-// The kind of a shift.
-#[derive(Drop)]
+// The kind of a shift. Each has its number in document 02, which C sees.
+#[derive(Clone, Copy, Debug, PartialEq, Eq)]
 pub enum ShiftKind {
     // the first comparison differed, that of the last byte (last card)
-    LastByte,
+    LastByte = 1,
     // a later one by the order differed
-    Order,
+    Order = 2,
     // all agreed (after a find)
-    AfterOccurrence,
+    AfterOccurrence = 3,
     // one of a repeat differed
-    LongRepeat,
+    LongRepeat = 4,
 }
 
 // Why a position has no hold.
-#[derive(Drop)]
+#[derive(Clone, Copy, Debug, PartialEq, Eq)]
 pub enum Explanation {
     // it is an occurrence (find), so it has its hold
     Listed,
@@ -37,9 +38,9 @@ pub enum Explanation {
     },
 }
 
-// What explaining answers.
+// What explaining answers. What is not told is 0 in it.
 #[repr(C)]
-#[derive(Drop)]
+#[derive(Clone, Copy, Debug, Default, PartialEq, Eq)]
 pub struct ExplainAnswer {
     pub answer: Answer,
     // 1 listed, 2 tried, 3 passed over
@@ -52,57 +53,48 @@ pub struct ExplainAnswer {
     pub kind: u32,
 }
 
-// The number of a kind of shift, in document 02's order.
-fn kind_number(kind: ShiftKind) -> u32
-    ensures { result ≡ kind_number kind }
-{
-    match kind {
-        ShiftKind::LastByte => 1,
-        ShiftKind::Order => 2,
-        ShiftKind::AfterOccurrence => 3,
-        ShiftKind::LongRepeat => 4,
-    }
-}
-
 // The answer that tells an explanation.
-pub fn explained(explanation: Explanation) -> ExplainAnswer
-    ensures { result ≡ explained explanation }
-{
-    let answer = answers::status_only(0);
-    match explanation {
-        Explanation::Listed => ExplainAnswer {
-            answer,
-            outcome: 1,
-            place: 0,
-            from: 0,
-            kind: 0,
-        },
-        Explanation::Tried(place) => ExplainAnswer {
-            answer,
-            outcome: 2,
-            place,
-            from: 0,
-            kind: 0,
-        },
-        Explanation::PassedOver { from, spoilt, kind } => ExplainAnswer {
-            answer,
-            outcome: 3,
-            place: spoilt,
-            from,
-            kind: kind_number(kind),
-        },
+impl From<Explanation> for ExplainAnswer {
+    ghost from_gives = { λ explanation answer. answer ≡ explained explanation };
+
+    fn from(explanation: Explanation) -> ExplainAnswer {
+        match explanation {
+            Explanation::Listed => ExplainAnswer {
+                outcome: 1,
+                ..ExplainAnswer::default()
+            },
+            Explanation::Tried(place) => ExplainAnswer {
+                outcome: 2,
+                place,
+                ..ExplainAnswer::default()
+            },
+            Explanation::PassedOver { from, spoilt, kind } => ExplainAnswer {
+                outcome: 3,
+                place: spoilt,
+                from,
+                kind: kind as u32,
+                ..ExplainAnswer::default()
+            },
+        }
     }
 }
 
-// The answer of a call that is refused.
+// The answer of a call that is refused by a number. It is there beside `From`: it promises this of
+// every number.
 pub fn refused(status: u32) -> ExplainAnswer
     ensures { result ≡ refused status }
 {
     ExplainAnswer {
         answer: answers::status_only(status),
-        outcome: 0,
-        place: 0,
-        from: 0,
-        kind: 0,
+        ..ExplainAnswer::default()
+    }
+}
+
+// The same by a reason.
+impl From<Reason> for ExplainAnswer {
+    ghost from_gives = { λ reason answer. answer ≡ refused (number_of reason) };
+
+    fn from(reason: Reason) -> ExplainAnswer {
+        refused(reason as u32)
     }
 }

@@ -170,9 +170,11 @@ module _ (f : ℕ → ℕ) (N : ℕ) (w : List ℕ) (nonempty : 1 ≤ length w) 
   -- and no other is
   listed_only : occurs f N w c ≡ true → (e : Explanation) → TrueOf f N w c e → Listed ≡ e
   unfolding TrueOf
-  listed_only occurring Listed h = refl
-  listed_only occurring (Tried i) h = absurd (h.differs (sym (occurs_agrees f N w c occurring i (row_inside h))))
-  listed_only occurring (PassedOver from j kind) h = absurd (h.spoilt.differs (sym (occurs_agrees f N w c occurring j h.spoilt.inside)))
+  listed_only found Listed h = refl
+  listed_only found (Tried i) h =
+      absurd (h.differs (sym (occurs_agrees f N w c found i (row_inside h))))
+  listed_only found (PassedOver from j kind) h =
+      absurd (h.spoilt.differs (sym (occurs_agrees f N w c found j h.spoilt.inside)))
 
   only : c + length w ≤ N → (e : Explanation) → TrueOf f N w c e → e ≡ explanation f N w c
   unfolding TrueOf

@@ -6,6 +6,7 @@ ghost use Rattle.std.specs.Prelude.{◌≡◌};
 ghost use Rattle.explain_meaning.specs.Explanation.{kind_by, explanation_in};
 ghost use Rattle.explain_walk.specs.Reach.{ReachReady};
 
+use alignment::Prepared;
 use explain_answers::{Explanation, ShiftKind};
 
 // The kind of an alignment's shift, by whether it is a repeat and how many of its row's positions
@@ -26,24 +27,15 @@ fn kind_of(repeat: bool, agreed: usize, count: usize) -> ShiftKind
 }
 
 // Explains position b by the alignment that reaches it.
-pub fn explain_at(
-    pattern: &[u8],
-    text: &[u8],
-    order: &[i16],
-    delta2: &[u16],
-    delta1: &[u16],
-    delta3: &[u16],
-    p: usize,
-    b: usize,
-) -> Explanation
-    requires { ReachReady pattern.now text.now order.now delta2.now delta1.now
-        delta3.now p b }
-    ensures { result ≡ explanation_in b pattern.now text.now }
+pub fn explain_at(job: &Prepared, p: usize, b: usize) -> Explanation
+    requires { ReachReady job.now.pattern.now job.now.text.now job.now.order.now
+        job.now.delta2.now job.now.delta1.now job.now.delta3.now p b }
+    ensures { result ≡ explanation_in b job.now.pattern.now job.now.text.now }
 {
-    let reached = explain_walk::reach(pattern, text, order, delta2, delta1, delta3, p, b);
+    let reached = explain_walk::reach(job, p, b);
     let repeat = reached.laid.repeat;
     let agreed = reached.agreed;
-    let count = alignment::row_length(pattern, p, repeat);
+    let count = alignment::row_length(job.pattern, p, repeat);
     if reached.laid.position < b {
         return Explanation::PassedOver {
             from: reached.laid.position as u32,
@@ -54,5 +46,5 @@ pub fn explain_at(
     if agreed == count {
         return Explanation::Listed;
     }
-    Explanation::Tried(alignment::row_entry(pattern, order, repeat, agreed) as u32)
+    Explanation::Tried(alignment::row_entry(job.pattern, job.order, repeat, agreed) as u32)
 }

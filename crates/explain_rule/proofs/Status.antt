@@ -6,23 +6,21 @@ use Prim.Native.Nat.{ℕ, ◌-◌, ◌≤◌, ◌<◌}
 use native.Mathlib.Omega.{arith}
 use lib.ListN.{length}
 use Rattle.answers.proofs.Refusals.{first_refused, first_passed, limits_none}
-use Rattle.answers.specs.Refusals.{first_of, longest_pattern, WithinLimits}
+use Rattle.answers.specs.Refusals.{first_of, WithinLimits}
 use Rattle.tables.specs.Buffers.{Tables, lengths, PatternTaken}
 use Rattle.tables.specs.declared.TableLengths.{TableLengths}
 use Rattle.explain.specs.Explain.{explain_status, ExplainOutcome}
 use Rattle.explain_answers.specs.declared.ExplainAnswer.{ExplainAnswer}
 use Rattle.rules.proofs.Listed.{rule_listed, pattern_length}
 use Rattle.rules.proofs.Tested.{named_numbered, named_taken}
-use Rattle.rules.specs.Rules.{Rule, most_rules, table_size, count_of, length_at, rule_at, named_refusals}
+use Rattle.rules.specs.Rules.{Rule, most_rules, table_size, count_of, rule_at, named_refusals}
 use Rattle.explain_rule.specs.ExplainRule.{numbered_pattern, explain_rule_status, ExplainRuleOutcome}
 
 module _ (x : List ℕ) (number : ℕ) (size : length x ≡ table_size) (e : first_of (named_refusals x number) ≡ 0) where
-  -- the number is a rule's, which stands in a slot and has a pattern that is taken, which stands
-  -- there
+  -- the number is a rule's, which has a pattern that is taken, and stands in its slot
   pub record Named : Type 0 where
     pub some : 1 ≤ number
-    pub slot : number - 1 < most_rules
-    pub short : length_at x (number - 1) ≤ longest_pattern
+    pub inside : number - 1 < count_of x
     pub pattern : PatternTaken (numbered_pattern x number)
     pub listed : (rule_at x (number - 1)).pattern ≡ numbered_pattern x number
 
@@ -38,8 +36,7 @@ module _ (x : List ℕ) (number : ℕ) (size : length x ≡ table_size) (e : fir
       let long = rw listed at (pattern_length x size (number - 1) slot short) in
       record {
         some = rule.some;
-        slot = slot;
-        short = short;
+        inside = inside;
         pattern = record { some = omega (arith, long, hold); few = omega (arith, long, short) };
         listed = listed;
       }

@@ -22,10 +22,13 @@ use Rattle.explain_walk.specs.Reach.{Reaching}
 module _ {w t : List ℕ} (taken : Taken w t) (b : ℕ) (in_text : b + length w ≤ span w t) where
   -- the first comparison differs
   pub passed_differing :
-      {c s k : ℕ} → Reaching w t b (laid_at c s false) (length w) → c + length w ≤ b → byte t (c + (length w - 1)) ≢ byte w (length w - 1) →
-      k ≡ Δ1 w (shown t (c + (length w - 1))) s → Reaching w t b (laid_at (c + k) k false) (length w)
-  passed_differing {c} {s} so_far before differs shifted =
-      let next = after_first taken (laid_at c s false) (omega (arith, span_ends w t taken.some b in_text)) differs shifted in
+      {x : Laid} {k : ℕ} → Reaching w t b x (length w) → x.position + length w ≤ b →
+      byte t (x.position + (length w - 1)) ≢ byte w (length w - 1) →
+      k ≡ Δ1 w (shown t (x.position + (length w - 1))) x.shift →
+      Reaching w t b (laid_at (x.position + k) k false) (length w)
+  passed_differing {x} so_far before differs shifted =
+      let ends = span_ends w t taken.some b in_text in
+      let next = after_first taken x (omega (arith, ends)) differs shifted in
       reaching_over taken b in_text so_far (sym next) refl before
 
   -- all agree, after an occurrence

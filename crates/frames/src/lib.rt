@@ -14,8 +14,8 @@ pub fn write_moves(text: &[u8], frames: &mut [u16])
     requires { length text.now ≤ length frames.old }
     ensures { frames.new ≡ in_front text.now frames.old }
 {
-    for at in 0..text.len() {
-        frames[at] = text[at] as u16;
+    for (at, &byte) in text.iter().enumerate() {
+        frames[at] = u16::from(byte);
     }
 }
 
@@ -28,7 +28,7 @@ pub fn mark_holds(hold: u16, found: &[u16], hold_offset: usize, n: usize, frames
     ensures { frames.new ≡ with_holds hold (holds n hold_offset found.now)
         frames.old }
 {
-    for i in 0..found.len() {
-        frames[ring::wrapped(found[i] as usize + hold_offset, n)] = hold;
+    for &b in found {
+        frames[ring::wrapped(usize::from(b) + hold_offset, n)] = hold;
     }
 }

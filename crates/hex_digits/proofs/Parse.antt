@@ -1,22 +1,14 @@
--- What the cases of `Parsed` say: a value is answered just if the bytes are good, and is theirs; a refusal just if they are not.
+-- What a digit or a pair that is read says: a value is answered just if the bytes are good, and is theirs; none just if they are not.
 -- By the number that each case has.
 use mathlib.Core.Bool.{Bool, true, false, cond}
-use mathlib.Core.Path.{◌≡◌, refl, sym, ap, ◌∙◌}
+use mathlib.Core.Path.{◌≡◌, refl, ap, ◌∙◌}
 use Prim.Native.Nat.{ℕ, ◌<◌}
 use borrow.Author.Tests.{eqb-false}
 use Rattle.hex_digits.proofs.Digits.{value_below}
 use Rattle.hex_digits.specs.Hex.{is_digit, digit_value}
 use Rattle.hex_digits.specs.Parsed.{ParsedOutcome, parsed_status, parsed_value}
-use Rattle.hex_digits.specs.declared.Parsed.{Parsed}
-use Rattle.hex_digits.specs.declared.Parsed.TheVariants.{Value, Refused}
-
-pub refused : (good : Bool) (value : ℕ) → good ≡ false → ParsedOutcome good value Refused
-unfolding parsed_status parsed_value
-refused good v e = record { status = rw e; result = rw e }
-
-pub taken : (good : Bool) (value v : ℕ) → good ≡ true → value ≡ v → ParsedOutcome good value (Value v)
-unfolding parsed_status parsed_value
-taken good value v e q = record { status = rw e; result = rw (e, q) }
+use Rattle.std.specs.Option.{is_some}
+use Rattle.std.specs.Prelude.{Option, Some, None}
 
 -- the number, 0 or 2, tells good from bad
 pub told_good : (good : Bool) → ◌≡◌ {A = ℕ} 0 (cond good 0 2) → good ≡ true
@@ -27,18 +19,27 @@ pub told_bad : (good : Bool) → ◌≡◌ {A = ℕ} 2 (cond good 0 2) → good 
 told_bad true e = absurd (eqb-false 2 0 refl e)
 told_bad false e = refl
 
--- what a case says once a match has told it
-module _ (good : Bool) (value : ℕ) (r : Parsed) (o : ParsedOutcome good value r) where
-  pub value_read : (v : ℕ) → r ≡ Value v → (good ≡ true) × (v ≡ value)
+module _ {good : Bool} {value : ℕ} where
+  pub refused : good ≡ false → ParsedOutcome good value None
   unfolding parsed_status parsed_value
-  value_read v e =
-      let known = told_good good (sym (ap parsed_status e) ∙ o.status) in
-      (known, sym (ap parsed_value e) ∙ o.result ∙ ap (λ (b : Bool). cond b value 0) known)
+  refused e = record { status = rw e; result = rw e }
 
-  pub refused_bad : r ≡ Refused → good ≡ false
+  pub taken : {v : ℕ} → good ≡ true → value ≡ v → ParsedOutcome good value (Some v)
+  unfolding parsed_status parsed_value
+  taken e q = record { status = rw e; result = rw (e, q) }
+
+  pub value_read : {v : ℕ} → ParsedOutcome good value (Some v) → (good ≡ true) × (v ≡ value)
+  unfolding parsed_status parsed_value
+  value_read o = let known = told_good good o.status in (known, o.result ∙ ap (λ (b : Bool). cond b value 0) known)
+
+  pub refused_bad : ParsedOutcome good value None → good ≡ false
   unfolding parsed_status
-  refused_bad e = told_bad good (sym (ap parsed_status e) ∙ o.status)
+  refused_bad o = told_bad good o.status
+
+  pub some_just : (r : Option ℕ) → ParsedOutcome good value r → is_some r ≡ good
+  some_just (Some v) o = rw (value_read o).0
+  some_just None o = rw (refused_bad o)
 
 -- a digit that was read is below 16
-pub digit_below : (b : ℕ) (r : Parsed) → ParsedOutcome (is_digit b) (digit_value b) r → (v : ℕ) → r ≡ Value v → v < 16
-digit_below b r o v e = let (digit, is) = value_read _ _ r o v e in rw is (value_below b digit)
+pub digit_below : (b : ℕ) {v : ℕ} → ParsedOutcome (is_digit b) (digit_value b) (Some v) → v < 16
+digit_below b o = let (digit, is) = value_read o in rw is (value_below b digit)

@@ -4,16 +4,8 @@
 
 ghost use Rattle.std.specs.Prelude.{◌≡◌, ◌%◌, ◌≤◌};
 ghost use Rattle.hex_digits.specs.Parsed.{ParsedOutcome};
-ghost use Rattle.hex_digits.specs.Hex.{is_digit, digit_value, digit};
+ghost use Rattle.hex_digits.specs.Hex.{is_digit, digit_value, digit, digits};
 ghost use Rattle.hex_digits.specs.Pairs.{DigitPairs};
-
-// Bytes read as a number, or refused.
-#[derive(Drop)]
-pub enum Parsed {
-    Value(u8),
-    // refusal 2: a byte that is not the digit or line end due there
-    Refused,
-}
 
 // The value of a byte that is known to be a digit. Once a file's lines are checked, their digits
 // need no test for refusal 2 again.
@@ -28,14 +20,15 @@ pub fn value_of(digit: u8) -> u8
     }
 }
 
-// A byte read as a digit: each range of digits has its value, and any other byte is refusal 2.
-pub fn digit_value(byte: u8) -> Parsed
+// A byte read as a digit: each range of digits has its value, and any other byte has none, which is
+// refusal 2.
+pub fn digit_value(byte: u8) -> Option<u8>
     ensures { ParsedOutcome (is_digit byte) (digit_value byte) result }
 {
     match byte {
-        0x30..=0x39 => Parsed::Value(byte - 0x30),
-        0x41..=0x46 => Parsed::Value(byte - 0x37),
-        _ => Parsed::Refused,
+        0x30..=0x39 => Some(byte - 0x30),
+        0x41..=0x46 => Some(byte - 0x37),
+        _ => None,
     }
 }
 
@@ -51,15 +44,38 @@ pub fn digit_of(value: u8) -> u8
     }
 }
 
-// The two digits of each byte, those of byte b at 2 b and 2 b + 1. A report works it out once and
-// lends it for each line.
-pub fn digit_pairs() -> [u8; 512]
-    ensures { DigitPairs result }
-{
-    let mut pairs = [0; 512];
-    for byte in 0..256 {
-        pairs[2 * byte] = digit_of((byte / 16) as u8);
-        pairs[2 * byte + 1] = digit_of(byte as u8);
+// The two digits of each byte, those of byte b at 2 b and 2 b + 1. Nothing compares or copies it.
+#[derive(Drop)]
+pub struct PairTable {
+    pairs: [u8; 512],
+    ghost right: { DigitPairs pairs },
+}
+
+impl PairTable {
+    // A table of pairs that are right.
+    pub fn of(pairs: [u8; 512]) -> PairTable
+        requires { DigitPairs pairs }
+        ensures { result.pairs ≡ pairs }
+    {
+        PairTable { pairs }
     }
-    pairs
+
+    // A report works the table out once and lends it for each line.
+    pub fn new() -> PairTable {
+        let mut pairs = [0; 512];
+        // by index: what as_chunks_mut leaves in the flat table the check does not know
+        for byte in 0..256 {
+            pairs[2 * byte] = digit_of((byte / 16) as u8);
+            pairs[2 * byte + 1] = digit_of(byte as u8);
+        }
+        PairTable::of(pairs)
+    }
+
+    // The two digits of a byte.
+    pub fn digits_of(&self, byte: u8) -> [u8; 2]
+        ensures { result ≡ digits 2 byte }
+    {
+        let place = 2 * byte as usize;
+        [self.pairs[place], self.pairs[place + 1]]
+    }
 }

@@ -1,4 +1,4 @@
--- The lines of a list of numbers, written one after another into a buffer from an entry on: none yet, one more, and all.
+-- The lines of a list of numbers, written one after another into a buffer from an entry on: none yet, and one more.
 -- Each line is put after those that are there.
 use mathlib.Core.List.{List}
 use mathlib.Core.Path.{◌≡◌, refl, sym}
@@ -7,7 +7,7 @@ use native.Mathlib.Nat.{mul-zero, mul-suc}
 use native.Mathlib.Numerals.{add-one}
 use native.Mathlib.Omega.{arith}
 use lib.ListN.{length, take, get_or}
-use lib.Seq.{length-take-le, take-suc, take_all}
+use lib.Seq.{length-take-le, take-suc}
 use Rattle.answers.proofs.Fronts.{from_entry_none, from_entry_append}
 use Rattle.answers.specs.Buffers.{from_entry}
 use Rattle.hex_lines.proofs.Lines.{length_lines, lines_snoc}
@@ -38,10 +38,3 @@ module _ (n at : ℕ) (numbers old : List ℕ) where
         (from_entry_append at (lines n (take i numbers)) old room (line n (get_or numbers i 0)) _
         (rw (length_lines, length-take-le i numbers r.few) (sym r.after)));
   }
-
-  pub all_so_far :
-      (i : ℕ) {out : List ℕ} {next : ℕ} → length numbers ≤ i → SoFar i out next →
-      (next ≡ at + (n + 1) * length numbers) × (out ≡ from_entry at (lines n numbers) old)
-  all_so_far i h r =
-      let all : i ≡ length numbers = omega (arith, r.few) in
-      (rw all at r.after, rw (← take_all i numbers h) r.written)

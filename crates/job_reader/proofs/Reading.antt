@@ -1,8 +1,8 @@
--- What a first line, a line of two digits and several such lines consist of, what the cases of `FirstLine` say, and the status by fields.
+-- What a first line, a line of two digits and several such lines consist of, what the cases of a first line that is read say, and the status by fields.
 -- By unfolding the definitions at their digits, and by induction on the number of lines.
 use mathlib.Core.Bool.{Bool, true, false, ◌&&◌, not, cond, and-eq-true_iff, and_assoc, and-true, and-false}
 use mathlib.Core.List.{List, [], ◌∷◌, ◌++◌}
-use mathlib.Core.Path.{◌≡◌, sym, ap, ◌∙◌}
+use mathlib.Core.Path.{◌≡◌, ap, ◌∙◌}
 use Prim.Native.Nat.{ℕ, zero, suc, ◌+◌, ◌*◌, ◌-◌, ◌≤◌, ◌<◌}
 use native.Mathlib.Nat.{zero-add, add-zero}
 use native.Mathlib.Omega.{arith}
@@ -15,16 +15,13 @@ use Rattle.hex_digits.proofs.Parse.{told_good, told_bad, refused_bad}
 use Rattle.hex_digits.proofs.Table.{and_left, and_right}
 use Rattle.hex_digits.specs.Hex.{is_digit, all_digits, number}
 use Rattle.hex_digits.specs.Parsed.{ParsedOutcome}
-use Rattle.hex_digits.specs.declared.Parsed.{Parsed}
-use Rattle.hex_digits.specs.declared.Parsed.TheVariants as parsed
 use Rattle.job.proofs.RoundTrip.{good_lines_split}
 use Rattle.job.specs.Job.{good_line, good_lines, bytes_in, edition_in, m_in, q_in, n_in, file_length, file_refusals}
 use Rattle.hex_lines.specs.Lines.{line_end}
 use Rattle.job.specs.Read.{read_status}
 use Rattle.job_reader.specs.FirstLine.{FirstLineOutcome, FirstLineRead, first_line_status, first_line_fields, no_fields, fields_in}
 use Rattle.job_reader.specs.declared.Fields.{Fields}
-use Rattle.job_reader.specs.declared.FirstLine.{FirstLine}
-use Rattle.job_reader.specs.declared.FirstLine.TheVariants.{Good, Refused}
+use Rattle.std.specs.Prelude.{Some, None}
 
 -- a first line is five pairs of digits and the line end
 pub first_line_pairs : (bs : List ℕ)
@@ -42,13 +39,13 @@ fields_read bs e m q high low pe pm pq ph pl =
     let pn : high * 256 + low ≡ n_in bs = omega arith in
     λ i. record { edition = pe i; m = pm i; q = pq i; n = pn i }
 
-pub first_refused : (bs : List ℕ) → good_line 10 0 bs ≡ false → FirstLineOutcome bs Refused
+pub first_refused : {bs : List ℕ} → good_line 10 0 bs ≡ false → FirstLineOutcome bs None
 unfolding first_line_status first_line_fields
-first_refused bs e = record { status = rw e; fields = rw e }
+first_refused e = record { status = rw e; fields = rw e }
 
-pub first_good : (bs : List ℕ) (fields : Fields) → good_line 10 0 bs ≡ true → fields ≡ fields_in bs → FirstLineOutcome bs (Good fields)
+pub first_good : {bs : List ℕ} {fields : Fields} → good_line 10 0 bs ≡ true → fields ≡ fields_in bs → FirstLineOutcome bs (Some fields)
 unfolding first_line_status first_line_fields
-first_good bs f e q = record { status = rw e; fields = rw e q }
+first_good e q = record { status = rw e; fields = rw e q }
 
 -- of a run of digits, two that are not digits leave none
 bad_digits : (n k a : ℕ) (bs : List ℕ) → k + 2 ≤ n → all_digits 2 (a + k) bs ≡ false → all_digits n a bs ≡ false
@@ -61,22 +58,20 @@ bad_digits (suc (suc n)) (suc k) a bs h e =
     rw (bad_digits (suc n) k (suc a) bs (omega arith) (rw there at e), and-false)
 
 -- a pair of the first line that was refused
-pub pair_refused : (bs : List ℕ) (at : ℕ) (r : Parsed) → ParsedOutcome (all_digits 2 at bs) (number 2 at bs) r
-    → at ≤ 8 → r ≡ parsed.Refused → FirstLineOutcome bs Refused
+pub pair_refused : {bs : List ℕ} {at : ℕ} → ParsedOutcome (all_digits 2 at bs) (number 2 at bs) None → at ≤ 8 → FirstLineOutcome bs None
 unfolding good_line
-pair_refused bs at r o h e = first_refused bs (rw (bad_digits 10 at 0 bs (omega arith) (rw zero-add (refused_bad _ _ r o e))))
+pair_refused {bs} {at} o h = first_refused (rw (bad_digits 10 at 0 bs (omega arith) (rw zero-add (refused_bad o))))
 
--- what a case says once a match has told it
-module _ (bs : List ℕ) (r : FirstLine) (o : FirstLineOutcome bs r) where
-  pub good_read : (fields : Fields) → r ≡ Good fields → (good_line 10 0 bs ≡ true) × (fields ≡ fields_in bs)
-  unfolding first_line_status first_line_fields
-  good_read fields e =
-      let good = told_good (good_line 10 0 bs) (sym (ap first_line_status e) ∙ o.status) in
-      (good, sym (ap first_line_fields e) ∙ o.fields ∙ ap (λ (b : Bool). cond b (fields_in bs) no_fields) good)
+-- what a first line that is read says
+pub good_read : {bs : List ℕ} {fields : Fields} → FirstLineOutcome bs (Some fields) → (good_line 10 0 bs ≡ true) × (fields ≡ fields_in bs)
+unfolding first_line_status first_line_fields
+good_read {bs} o =
+    let good = told_good (good_line 10 0 bs) o.status in
+    (good, o.fields ∙ ap (λ (b : Bool). cond b (fields_in bs) no_fields) good)
 
-  pub refused_is : r ≡ Refused → good_line 10 0 bs ≡ false
-  unfolding first_line_status
-  refused_is e = told_bad (good_line 10 0 bs) (sym (ap first_line_status e) ∙ o.status)
+pub refused_is : {bs : List ℕ} → FirstLineOutcome bs None → good_line 10 0 bs ≡ false
+unfolding first_line_status
+refused_is o = told_bad _ o.status
 
 -- a line of two digits, byte by byte
 pub line_bytes : (a : ℕ) (bs : List ℕ)

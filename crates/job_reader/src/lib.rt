@@ -1,21 +1,21 @@
 // Reading a job file: all of it is checked before anything is written to the caller's buffers.
 #![tactic(auto)]
 
-ghost use Rattle.std.specs.Prelude.{true, ◌&&◌, ◌≡◌, ◌+◌, ◌*◌, ◌≤◌, ◌<◌, eqb, length};
+ghost use Rattle.std.specs.Prelude.{true, IfOk, ◌&&◌, ◌≡◌, ◌+◌, ◌*◌, ◌≤◌, ◌<◌, eqb, length};
+ghost use Rattle.answers.specs.Reasons.{status_of};
 ghost use Rattle.hex_digits.specs.Hex.{is_digit, digit_value, all_digits, number};
 ghost use Rattle.hex_digits.specs.Parsed.{ParsedOutcome};
-ghost use Rattle.answers.specs.Answers.{status_only};
 ghost use Rattle.job.specs.Job.{good_lines, bytes_in};
 ghost use Rattle.job.specs.Read.{read_status, ReadOutcome};
 ghost use Rattle.hex_lines.specs.Lines.{line_end};
-ghost use Rattle.job_reader.specs.FirstLine.{FirstLineOutcome, FirstLineRead};
+ghost use Rattle.job_reader.specs.FirstLine.{FirstLineOutcome, FirstLineRead, FieldsTaken};
 
-use hex_digits::Parsed;
+use answers::{Answer, Reason};
 use hex_lines::LINE_END;
 use job::ReadAnswer;
 
 // What a job's first line gives: the edition, m, q and n.
-#[derive(Clone, Copy)]
+#[derive(Clone, Copy, Debug, PartialEq, Eq)]
 pub struct Fields {
     pub edition: usize,
     pub m: usize,
@@ -23,30 +23,18 @@ pub struct Fields {
     pub n: usize,
 }
 
-// A first line as it is read.
-#[derive(Drop)]
-pub enum FirstLine {
-    Good(Fields),
-    // refusal 2: a byte that is not the digit or line end due there
-    Refused,
-}
-
-// The number that two digits give.
-fn pair(high: u8, low: u8) -> Parsed
+// The number that two digits give; none where one is no digit, which is refusal 2.
+fn pair(high: u8, low: u8) -> Option<u8>
     ensures { ParsedOutcome (is_digit high && is_digit low)
         (digit_value high * 16 + digit_value low) result }
 {
-    let Parsed::Value(sixteens) = hex_digits::digit_value(high) else {
-        return Parsed::Refused;
-    };
-    let Parsed::Value(units) = hex_digits::digit_value(low) else {
-        return Parsed::Refused;
-    };
-    Parsed::Value(sixteens * 16 + units)
+    let sixteens = hex_digits::digit_value(high)?;
+    let units = hex_digits::digit_value(low)?;
+    Some(sixteens * 16 + units)
 }
 
 // The number that two digits at a place of the file give.
-fn pair_at(file: &[u8], at: usize) -> Parsed
+fn pair_at(file: &[u8], at: usize) -> Option<u8>
     requires { at + 2 ≤ length file.now }
     ensures { ParsedOutcome (all_digits 2 at file.now) (number 2 at file.now)
         result }
@@ -54,30 +42,21 @@ fn pair_at(file: &[u8], at: usize) -> Parsed
     pair(file[at], file[at + 1])
 }
 
-// The fields of the first line.
-fn first_line(file: &[u8]) -> FirstLine
+// The fields of the first line; none where a byte is not the digit or line end due there, which is
+// refusal 2.
+fn first_line(file: &[u8]) -> Option<Fields>
     requires { 11 ≤ length file.now }
     ensures { FirstLineOutcome file.now result }
 {
-    let Parsed::Value(edition) = pair_at(file, 0) else {
-        return FirstLine::Refused;
-    };
-    let Parsed::Value(m) = pair_at(file, 2) else {
-        return FirstLine::Refused;
-    };
-    let Parsed::Value(hold_offset) = pair_at(file, 4) else {
-        return FirstLine::Refused;
-    };
-    let Parsed::Value(high) = pair_at(file, 6) else {
-        return FirstLine::Refused;
-    };
-    let Parsed::Value(low) = pair_at(file, 8) else {
-        return FirstLine::Refused;
-    };
+    let edition = pair_at(file, 0)?;
+    let m = pair_at(file, 2)?;
+    let hold_offset = pair_at(file, 4)?;
+    let high = pair_at(file, 6)?;
+    let low = pair_at(file, 8)?;
     if file[10] != LINE_END {
-        return FirstLine::Refused;
+        return None;
     }
-    FirstLine::Good(Fields {
+    Some(Fields {
         edition: edition as usize,
         m: m as usize,
         q: hold_offset as usize,
@@ -89,53 +68,63 @@ fn first_line(file: &[u8]) -> FirstLine
 fn is_line(high: u8, low: u8, end: u8) -> bool
     ensures { result ≡ is_digit high && is_digit low && eqb end line_end }
 {
-    match pair(high, low) {
-        Parsed::Value(_) => end == LINE_END,
-        Parsed::Refused => false,
-    }
+    pair(high, low).is_some() && end == LINE_END
 }
 
 // Whether so many lines of two digits stand in the file from a place on. The good lines are
-// counted, so that the loop has no way out before its end.
+// counted, so that the sum has no way out before its end.
 fn are_lines(file: &[u8], count: usize, from: usize) -> bool
     requires inside { from + 3 * count ≤ length file.now }
     requires few { count < 65536 }
     ensures { result ≡ good_lines count from file.now }
 {
-    let mut good: u16 = 0;
-    for i in 0..count {
-        let at = from + 3 * i;
-        if is_line(file[at], file[at + 1], file[at + 2]) {
-            good += 1;
-        }
-    }
+    let (lines, _) = file[from..from + 3 * count].as_chunks::<3>();
+    let good: u16 = lines
+        .iter()
+        .map(|&[high, low, end]| u16::from(is_line(high, low, end)))
+        .sum();
     good as usize == count
 }
 
-// The status of reading a file of these fields into buffers of these lengths.
-fn status_of(file: &[u8], fields: Fields, pattern_len: usize, text_len: usize) -> u32
+// What a file of these fields is refused for, read into buffers of these lengths.
+fn check_fields(
+    file: &[u8],
+    fields: Fields,
+    pattern_len: usize,
+    text_len: usize,
+) -> Result<(), Reason>
     requires { FirstLineRead file.now fields }
-    ensures { result ≡ read_status file.now pattern_len text_len }
+    ensures { status_of result ≡ read_status file.now pattern_len text_len }
 {
     let m = fields.m;
     let n = fields.n;
     if fields.edition != 1 {
-        return 3;
+        return Err(Reason::Edition);
     }
-    let status = answers::job_status(m, fields.q, n);
-    if status != 0 {
-        return status;
-    }
+    answers::check_job(m, fields.q, n)?;
     if file.len() != 11 + 3 * m + 3 * n {
-        return 1;
+        return Err(Reason::FileLength);
     }
     if !are_lines(file, m + n, 11) {
-        return 2;
+        return Err(Reason::WrongByte);
     }
     if pattern_len < m || text_len < n {
-        return 7;
+        return Err(Reason::ShortBuffer);
     }
-    0
+    Ok(())
+}
+
+// The fields of a file that is taken, read into buffers of these lengths.
+fn check_file(file: &[u8], pattern_len: usize, text_len: usize) -> Result<Fields, Reason>
+    ensures status { status_of result ≡ read_status file.now pattern_len text_len }
+    ensures fields { IfOk result (λ fields. FieldsTaken file.now pattern_len text_len fields) }
+{
+    if file.len() < 11 {
+        return Err(Reason::FileLength);
+    }
+    let fields = first_line(file).ok_or(Reason::WrongByte)?;
+    check_fields(file, fields, pattern_len, text_len)?;
+    Ok(fields)
 }
 
 // Reads the bytes of the lines from a place of the file on, until the buffer is full.
@@ -144,21 +133,9 @@ fn read_lines(file: &[u8], from: usize, out: &mut [u8])
     requires good { good_lines (length out.old) from file.now ≡ true }
     ensures { out.new ≡ bytes_in (length out.old) from file.now }
 {
-    for i in 0..out.len() {
+    for (i, byte) in out.iter_mut().enumerate() {
         let at = from + 3 * i;
-        out[i] = hex_digits::value_of(file[at]) * 16 + hex_digits::value_of(file[at + 1]);
-    }
-}
-
-// The answer of a call that is refused.
-fn refused(status: u32) -> ReadAnswer
-    ensures { result ≡ record { answer = status_only status; m = 0; q = 0; n = 0 } }
-{
-    ReadAnswer {
-        answer: answers::status_only(status),
-        m: 0,
-        q: 0,
-        n: 0,
+        *byte = hex_digits::value_of(file[at]) * 16 + hex_digits::value_of(file[at + 1]);
     }
 }
 
@@ -167,22 +144,16 @@ pub fn read_job(file: &[u8], pattern: &mut [u8], text: &mut [u8]) -> ReadAnswer
     ensures { ReadOutcome file.now pattern.old pattern.new
         text.old text.new result }
 {
-    if file.len() < 11 {
-        return refused(1);
-    }
-    let FirstLine::Good(fields) = first_line(file) else {
-        return refused(2);
+    let fields = match check_file(file, pattern.len(), text.len()) {
+        Ok(fields) => fields,
+        Err(reason) => return ReadAnswer::from(reason),
     };
-    let status = status_of(file, fields, pattern.len(), text.len());
-    if status != 0 {
-        return refused(status);
-    }
     let m = fields.m;
     let n = fields.n;
     read_lines(file, 11, &mut pattern[..m]);
     read_lines(file, 11 + 3 * m, &mut text[..n]);
     ReadAnswer {
-        answer: answers::status_only(0),
+        answer: Answer::default(),
         m: m as u32,
         q: fields.q as u32,
         n: n as u32,

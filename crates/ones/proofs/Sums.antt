@@ -1,14 +1,20 @@
--- The ones of a text as a sum: of two texts joined, of a part of a text and what follows it, and at most eight for each byte.
--- By induction on the text.
+-- The ones of a text as a sum: over its bytes, over two texts joined and over a part and what follows it; and at most eight for each byte.
+-- By induction on the text. Assumes nothing.
 use mathlib.Core.List.{List, [], ◌∷◌, ◌++◌}
-use mathlib.Core.Path.{◌≡◌, sym, ◌∙◌, ap}
+use mathlib.Core.Path.{◌≡◌, refl, sym, ◌∙◌, ap}
 use Prim.Native.Nat.{ℕ, ◌+◌, ◌*◌, ◌≤◌}
 use native.Mathlib.Omega.{arith}
-use lib.Count.{ones-le}
+use lib.Count.{ones, ones-le}
 use lib.ListN.{length, take, drop, take-append-drop}
 use lib.Seq.{drop-drop}
+use Rattle.std.specs.List.{sum_by}
+use Rattle.std.proofs.lemmas.List.Recursion.{is_sum_by}
 use Rattle.answers.specs.Bytes.{Bytes}
 use Rattle.ones.specs.Ones.{ones_of}
+
+pub ones_summed : (t : List ℕ) → ones_of t ≡ sum_by ones t
+unfolding ones_of
+ones_summed t = is_sum_by ones_of ones refl (λ _ _. refl) t
 
 pub ones_append : (s t : List ℕ) → ones_of (s ++ t) ≡ ones_of s + ones_of t
 unfolding ones_of

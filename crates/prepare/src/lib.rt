@@ -1,10 +1,10 @@
-// Preparing a pattern: its tables in the caller's buffers.
+// Preparing a pattern: its tables in the caller's buffers. These stay apart, as C lends them: a
+// struct of `&mut` is no plainer, since every clause would name each buffer through it.
 #![tactic(auto)]
 
 ghost use Rattle.std.specs.Prelude.{◌≡◌, ◌+◌, ◌≤◌, length};
 ghost use Rattle.answers.specs.Buffers.{in_front};
 ghost use Rattle.tables.specs.Buffers.{tables, PatternTaken, TablesFit, TablesWritten};
-ghost use Rattle.tables.specs.Buffers.{tables};
 ghost use Rattle.tables.specs.Prepare.{PrepareOutcome};
 ghost use Rattle.tables.specs.Tables.{stored_order, stored_Δ2, stored_Δ3, period};
 
@@ -71,9 +71,8 @@ pub fn prepare(
         (tables order.new delta2.new delta1.new delta3.new) result }
 {
     let lengths = tables::lengths(order, delta2, delta1, delta3);
-    let status = tables::status(pattern.len(), 0, 0, lengths, false);
-    if status != 0 {
-        return answers::status_only(status);
+    if let Err(reason) = tables::check(pattern.len(), 0, 0, lengths, false) {
+        return Answer::from(reason);
     }
     let period = write_tables(pattern, order, delta2, delta1, delta3);
     answers::prepared(period)

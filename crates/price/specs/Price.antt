@@ -21,6 +21,10 @@ job_cost q w t = cost t (frames q w t)
 unfoldable pub price_answer : (status q : ℕ) → (w t : List ℕ) → PriceAnswer
 price_answer s q w t = record { answer = status_only s; pence = if_done s (job_cost q w t) 0 }
 
+-- what a refused call answers: its status, and 0 pence
+abbrev pub refused_answer : (status : ℕ) → PriceAnswer
+refused_answer status = record { answer = status_only status; pence = 0 }
+
 -- what `price` answers and leaves, of status s: lent and left are the tables' buffers at entry and at exit, found' is found at exit; tables
 -- and finds are left as `search` leaves them
 pub record PriceOutcomeOf (s q : ℕ) (w t : List ℕ) (lent left : Tables) (found found' : List ℕ) (r : PriceAnswer) : Type 0 where

@@ -1,18 +1,32 @@
-// The price of a job: a search, and then the tariff.
+// The price of a job: a search, and then the tariff. The buffers stand apart, as C lends them.
 #![tactic(auto)]
 
-ghost use Rattle.price.specs.Price.{PriceOutcome};
+ghost use Rattle.std.specs.Prelude.{◌≡◌};
+ghost use Rattle.answers.specs.Reasons.{number_of};
+ghost use Rattle.price.specs.Price.{PriceOutcome, refused_answer};
 ghost use Rattle.tables.specs.Buffers.{tables};
 
-use answers::Answer;
+use answers::{Answer, Reason};
 
 // What pricing answers.
 #[repr(C)]
-#[derive(Drop)]
+#[derive(Clone, Copy, Debug, Default, PartialEq, Eq)]
 pub struct PriceAnswer {
     pub answer: Answer,
     // the price, in pence
     pub pence: u32,
+}
+
+// What a refused call answers: 0 pence.
+impl From<Reason> for PriceAnswer {
+    ghost from_gives = { λ reason answer. answer ≡ refused_answer (number_of reason) };
+
+    fn from(reason: Reason) -> PriceAnswer {
+        PriceAnswer {
+            answer: Answer::from(reason),
+            pence: 0,
+        }
+    }
 }
 
 // Prices a text (chain) that is converted by a pattern (motif) and a hold offset (hold place). Each
@@ -35,16 +49,12 @@ pub fn price(
     let lengths = tables::lengths(order, delta2, delta1, delta3);
     let hold_offset = hold_offset as usize;
     let n = text.len();
-    let status = tables::status(pattern.len(), hold_offset, n, lengths, found.len() < n);
-    if status != 0 {
-        return PriceAnswer {
-            answer: answers::status_only(status),
-            pence: 0,
-        };
+    if let Err(reason) = tables::check(pattern.len(), hold_offset, n, lengths, found.len() < n) {
+        return PriceAnswer::from(reason);
     }
     let searched = search::search_within(pattern, text, order, delta2, delta1, delta3, found);
     PriceAnswer {
-        answer: answers::status_only(0),
+        answer: Answer::default(),
         pence: price_tariff::cost_by_holds(text, searched.occurrences),
     }
 }

@@ -2,28 +2,31 @@
 -- refused, and done. The searches find as many occurrences as the frames have holds, and tell their
 -- number.
 use mathlib.Core.List.{List, [], ◌∷◌}
-use mathlib.Core.Path.{◌≡◌, refl, ◌∙◌, ap}
+use mathlib.Core.Path.{◌≡◌, refl, sym}
 use Prim.Native.Nat.{ℕ, zero, suc, ◌≤◌}
 use native.Mathlib.Omega.{arith}
+use lib.Dec.{ltb}
 use lib.ListN.{length}
 use Rattle.answers.specs.Answers.{status_only, if_done}
 use Rattle.answers.specs.Bytes.{Bytes}
 use Rattle.answers.specs.Refusals.{longest_text, buffer_refusal}
 use Rattle.tables.specs.Buffers.{Tables, lengths}
+use Rattle.tables.specs.declared.TableLengths.{TableLengths}
 use Rattle.price_tariff.specs.Sums.{cost_by_holds, Countable}
 use Rattle.price.specs.declared.PriceAnswer.{PriceAnswer}
-use Rattle.rules.proofs.Listed.{rules_counted}
 use Rattle.rules.proofs.Taken.{table_patterned}
 use Rattle.rules.specs.Buffers.{one_after_another, all_tables_left}
-use Rattle.rules.specs.Rules.{Rule, rules_of, most_rules, table_size}
+use Rattle.rules.specs.Rules.{Rule, rules_of, table_size}
 use Rattle.rules_answers.specs.declared.RuleAnswer.{RuleAnswer}
 use Rattle.rules_claims.proofs.Few.{few_found}
 use Rattle.rules_claims.specs.Claims.{found_of}
 use Rattle.rules_claims.specs.Promises.{FewFound}
 use Rattle.rules_searches.specs.Searches.{RulesSearched}
 use Rattle.rules_status.proofs.Measured.{MeasuredTaken, search_taken}
+use Rattle.rules_status.specs.Measured.{measured_status}
+use Rattle.search_rules.proofs.Taken.{status_is}
 use Rattle.search_rules.specs.SearchRules.{search_rules_status, search_rules_status_of, all_found_left}
-use Rattle.price_rules.proofs.Cost.{rules_cost_counted, all_summed, told_size}
+use Rattle.price_rules.proofs.Cost.{rules_cost_counted, all_summed}
 use Rattle.price_rules.specs.PriceRules.{occurrences_told, price_rules_answer, PriceRulesOutcomeOf}
 use Rattle.price_rules.specs.Promises.{RulesCostCounted}
 
@@ -50,6 +53,13 @@ pub price_taken :
 unfolding search_rules_status
 price_taken x t lent found size e = search_taken x t (lengths lent) _ size (omega arith) e
 
+-- so says a measured status of 0
+pub job_taken :
+    (x t : List ℕ) (lent : Tables) (found : List ℕ) {l : TableLengths} → length x ≡ table_size →
+    0 ≡ measured_status x t l (ltb (length found) (length t)) → l ≡ lengths lent → PriceTaken x t lent found
+job_taken x t lent found size measured e =
+    price_taken x t lent found size (sym (status_is x t (length found) measured e))
+
 module _
     {x t : List ℕ} {lent left : Tables} {found found' : List ℕ} {answers : List RuleAnswer}
     (m : PriceTaken x t lent found)
@@ -64,11 +74,8 @@ module _
     unfolding FewFound
     few = rw summed (few_found (rules_of x) t (λ none. table_patterned x m.table) m.once)
 
-    pub told_fit : (length answers ≡ most_rules) × (occurrences_told answers ≤ longest_text)
-    told_fit = (
-      ap length searched.answers ∙ told_size (rules_of x) t (omega (arith, rules_counted x, m.table.few)),
-      omega (arith, few, m.text),
-    )
+    pub told_fit : occurrences_told answers ≤ longest_text
+    told_fit = omega (arith, few, m.text)
 
     -- the cost can be worked out
     pub countable : Countable t (occurrences_told answers)

@@ -1,6 +1,6 @@
 -- What pricing with a table of rules answers and leaves in its buffers (document 02, "A rule
 -- table"). These are definitions.
-use Rattle.std.specs.Prelude.{List, [], ◌∷◌, ◌≡◌, ℕ, ◌+◌}
+use Rattle.std.specs.Prelude.{List, ◌≡◌, ℕ, sum_by}
 use Rattle.answers.specs.Answers.{status_only, if_done}
 use Rattle.tables.specs.Buffers.{Tables}
 use Rattle.price_tariff.specs.Tariff.{cost}
@@ -12,9 +12,8 @@ use Rattle.rules_frames.specs.RuleFrames.{rule_frames}
 use Rattle.search_rules.specs.SearchRules.{search_rules_status_of, all_found_left}
 
 -- the occurrences (finds) that are told of the rules, summed up
-unfoldable pub occurrences_told : (answers : List RuleAnswer) → ℕ
-occurrences_told [] = 0
-occurrences_told (a ∷ later) = a.occurrences + occurrences_told later
+abbrev pub occurrences_told : (answers : List RuleAnswer) → ℕ
+occurrences_told answers = sum_by (λ a. a.occurrences) answers
 
 -- what a text (chain) costs with the frames that the rules convert it to
 abbrev pub rules_cost : List Rule → (t : List ℕ) → ℕ

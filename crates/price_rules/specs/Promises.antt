@@ -59,8 +59,8 @@ unfoldable pub rule_entries : (x t : List ℕ) → (i : ℕ) → (found : List �
 rule_entries x t i found =
     take (length (found_of t (nth x i))) (drop (length (one_after_another (found_of t) (take i (rules_of x)))) found)
 
--- what a call c for t and a call d for u, by one table, share of rule i, whose pattern (motif) is w:
--- the comparisons (looks) that its searches make, and its occurrences, which both have left
+-- what a call c for t and a call d for u, by one table, share of rule i, whose pattern (motif) is
+-- w: the comparisons (looks) that its searches make, and its occurrences, which both have left
 pub record RulePricedAlike (x t u : List ℕ) (c d : PriceCall) (i : ℕ) (w : List ℕ) : Type 0 where
   pub same_comparisons : comparisons w u ≡ comparisons w t
   pub same_occurrences : occurrences w u ≡ occurrences w t

@@ -17,12 +17,13 @@ fn report_taken(hold_offset: u32, pattern: &[u8], text: &[u8], out: &mut [u8]) -
     ensures { ReportWritten (done_report hold_offset pattern.now text.now)
         out.old out.new result }
 {
-    let mut order: [i16; LONGEST_PATTERN + 1] = [0; LONGEST_PATTERN + 1];
-    let mut delta2: [u16; LONGEST_PATTERN + 1] = [0; LONGEST_PATTERN + 1];
-    let mut delta1: [u16; 256 * LONGEST_PATTERN] = [0; 256 * LONGEST_PATTERN];
-    let mut delta3: [u16; LONGEST_PATTERN] = [0; LONGEST_PATTERN];
-    let mut found: [u16; LONGEST_TEXT] = [0; LONGEST_TEXT];
-    let mut frames: [u16; LONGEST_TEXT] = [0; LONGEST_TEXT];
+    // Memory is fixed: each buffer has the size that the longest job needs.
+    let mut order = [0i16; LONGEST_PATTERN + 1];
+    let mut delta2 = [0u16; LONGEST_PATTERN + 1];
+    let mut delta1 = [0u16; 256 * LONGEST_PATTERN];
+    let mut delta3 = [0u16; LONGEST_PATTERN];
+    let mut found = [0u16; LONGEST_TEXT];
+    let mut frames = [0u16; LONGEST_TEXT];
     let searched = search::search_within(
         pattern,
         text,
@@ -48,9 +49,10 @@ fn report_taken(hold_offset: u32, pattern: &[u8], text: &[u8], out: &mut [u8]) -
 pub fn seek_report(file: &[u8], out: &mut [u8]) -> ReportAnswer
     ensures { ReportOutcome file.now out.old out.new result }
 {
-    let mut pattern: [u8; LONGEST_PATTERN] = [0; LONGEST_PATTERN];
-    let mut text: [u8; LONGEST_TEXT] = [0; LONGEST_TEXT];
+    let mut pattern = [0u8; LONGEST_PATTERN];
+    let mut text = [0u8; LONGEST_TEXT];
     let read = job_reader::read_job(file, &mut pattern, &mut text);
+    // The status is the C interface's number, which the report of a refused job prints.
     let status = read.answer.status;
     if status != 0 {
         return report_lines::write_refused(status, out);

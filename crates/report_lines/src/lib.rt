@@ -4,13 +4,14 @@
 ghost use Rattle.std.specs.Prelude.{◌≡◌, ◌+◌, ◌*◌, ◌≤◌, length};
 ghost use Rattle.answers.specs.Answers.{status_only};
 ghost use Rattle.answers.specs.Buffers.{from_entry};
+ghost use Rattle.answers.specs.Reasons.{number_of};
 ghost use Rattle.answers.specs.Refusals.{longest_text};
-ghost use Rattle.hex_digits.specs.Pairs.{DigitPairs};
 ghost use Rattle.hex_lines.specs.Lines.{lines};
 ghost use Rattle.report_lines.specs.Printed.{numbers, number_lines, number_bytes};
 ghost use Rattle.report_lines.specs.Printed.{report_lines, refused_report, ReportWritten};
 
-use answers::Answer;
+use answers::{Answer, Reason};
+use hex_digits::PairTable;
 
 // The length of the report's lines of numbers: four digits, eight, eight, four and eight, and the
 // end of each line.
@@ -27,11 +28,24 @@ const REFUSED_LEN: usize = 2 + 2 + 1;
 
 // What writing a report answers.
 #[repr(C)]
-#[derive(Drop)]
+#[derive(Clone, Copy, Debug, Default, PartialEq, Eq)]
 pub struct ReportAnswer {
     pub answer: Answer,
     // the report's length
     pub bytes: u32,
+}
+
+// The answer of a call that is refused.
+impl From<Reason> for ReportAnswer {
+    ghost from_gives = { λ reason written. written
+        ≡ record { answer = status_only (number_of reason); bytes = 0 } };
+
+    fn from(reason: Reason) -> ReportAnswer {
+        ReportAnswer {
+            answer: Answer::from(reason),
+            ..ReportAnswer::default()
+        }
+    }
 }
 
 // Writes the lines of the answer's numbers, the first line at index 0, and returns the index after
@@ -51,39 +65,32 @@ fn write_numbers(converted: Answer, out: &mut [u8]) -> usize
 
 // Writes each number in four digits on a line of its own, the first line at index `at`, by the
 // table of digit pairs, and returns the index after the last line.
-fn write_lines(pairs: &[u8; 512], numbers: &[u16], at: usize, out: &mut [u8]) -> usize
-    requires pairs { DigitPairs pairs.now }
-    requires room { at + 5 * length numbers.now ≤ length out.old }
+fn write_lines(pairs: &PairTable, numbers: &[u16], at: usize, out: &mut [u8]) -> usize
+    requires { at + 5 * length numbers.now ≤ length out.old }
     ensures end { result ≡ at + 5 * length numbers.now }
     ensures written { out.new ≡ from_entry at (lines 4 numbers.now) out.old }
 {
     let mut next = at;
-    for i in 0..numbers.len() {
-        next = hex_lines::write_four_digit_line(pairs, numbers[i], next, out);
+    for &number in numbers {
+        next = hex_lines::write_four_digit_line(pairs, number, next, out);
     }
     next
 }
 
-// The answer of a status and a report's length.
-fn answer(status: u32, bytes: u32) -> ReportAnswer
-    ensures { result ≡ record { answer = status_only status; bytes = bytes } }
-{
-    ReportAnswer {
-        answer: answers::status_only(status),
-        bytes,
-    }
-}
-
-// Writes the report of a job that is refused (turned away) by a status.
+// Writes the report of a job that is refused (turned away) by a status: the number that the C
+// answer of `read_job` carries.
 pub fn write_refused(status: u32, out: &mut [u8]) -> ReportAnswer
     ensures { ReportWritten (refused_report status) out.old out.new result }
 {
     if out.len() < REFUSED_LEN {
-        return answer(7, 0);
+        return ReportAnswer::from(Reason::ShortBuffer);
     }
     let at = hex_lines::write_digits(2, 0xFF, 0, out);
     let bytes = hex_lines::write_line(2, status, at, out);
-    answer(0, bytes as u32)
+    ReportAnswer {
+        answer: Answer::default(),
+        bytes: bytes as u32,
+    }
 }
 
 // Writes the report of a job that is taken, from what it was converted to: the answer, the
@@ -95,11 +102,14 @@ pub fn write_done(converted: Answer, found: &[u16], frames: &[u16], out: &mut [u
         out.old out.new result }
 {
     if out.len() < NUMBERS_LEN + 5 * found.len() + 5 * frames.len() {
-        return answer(7, 0);
+        return ReportAnswer::from(Reason::ShortBuffer);
     }
     let at = write_numbers(converted, out);
-    let pairs = hex_digits::digit_pairs();
+    let pairs = PairTable::new();
     let at = write_lines(&pairs, found, at, out);
     let bytes = write_lines(&pairs, frames, at, out);
-    answer(0, bytes as u32)
+    ReportAnswer {
+        answer: Answer::default(),
+        bytes: bytes as u32,
+    }
 }

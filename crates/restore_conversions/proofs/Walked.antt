@@ -5,7 +5,7 @@ use mathlib.Core.List.{List}
 use mathlib.Core.Logic.{⊎_elim}
 use mathlib.Core.Path.{◌≡◌, sym, ◌∙◌, ap}
 use Prim.Native.Nat.{ℕ, suc, ◌+◌, ◌-◌, ◌%◌, ◌≤◌, ◌<◌}
-use native.Mathlib.Nat.{eq-or-lt_of_le, le_of_suc-le-suc, zero-add, suc-add, mod-lt, mod-eq_of_lt}
+use native.Mathlib.Nat.{eq-or-lt_of_le, le_of_suc-le-suc, suc-add, mod-lt, mod-eq_of_lt}
 use native.Mathlib.Omega.{arith}
 use borrow.Author.Tests.{lt-ltb, le-ltb, eq-eqb, ne_eqb}
 use lib.Dec.{ltb, eqb}
@@ -19,9 +19,9 @@ use Rattle.ring.proofs.Back.{back_inside, back_on, on_back}
 use Rattle.ring.specs.Ring.{back}
 use Rattle.frames.proofs.Holds.{held_at}
 use Rattle.frames.specs.Frames.{is_held}
-use Rattle.restore_prefixes.proofs.Walk.{extended_right, occurrence_ends, prefix_within}
+use Rattle.restore_prefixes.proofs.Walk.{prefix_on, occurrence_ends, prefix_within}
 use Rattle.restore_prefixes.specs.Prefixes.{longest_prefix, extended}
-use Rattle.restore_prefixes.specs.Promises.{ExtendedRight, OccurrenceEnds}
+use Rattle.restore_prefixes.specs.Promises.{OccurrenceEnds}
 use Rattle.restore_conversions.proofs.Numbered.{length_back, back_entry}
 use Rattle.restore_conversions.specs.Restored.{is_frame, restored_byte, all_restored}
 use Rattle.restore_conversions.specs.Walk.{AllFrames, frame_at, right_at, rule_right, shows, holds_at, ends_from, Walked}
@@ -37,15 +37,9 @@ held_ends q b w t some l =
     held_at w t some q ((b + q) % n) (mod-lt (b + q) some')
     ∙ rw (on_back n some' b q, mod-eq_of_lt l) (occurrence_ends (shown t) (span w t) w b (span_reaches w t some b l))
 
--- frames put back, one by one: `next` is the prefix extended by the byte of the next one
-pub prefix_on :
-    (hs w gs : List ℕ) (x prefix next : ℕ) → let f = shown (all_restored hs gs) in
-    prefix ≡ longest_prefix f w x → next ≡ extended w prefix (restored_byte hs (frame_at gs x)) → next ≡ longest_prefix f w (suc x)
-unfolding ExtendedRight
-prefix_on hs w gs x prefix next here grown =
-    let t = all_restored hs gs in
-    let there : shown t x ≡ restored_byte hs (frame_at gs x) = shown_at t x ∙ rw length_back (back_entry hs gs _) in
-    grown ∙ sym (extended_right (shown t) w x ∙ rw (← here, there))
+-- what is shown of frames put back is the byte of the frame there
+pub shown_back : (hs gs : List ℕ) (x : ℕ) → shown (all_restored hs gs) x ≡ restored_byte hs (frame_at gs x)
+shown_back hs gs x = shown_at (all_restored hs gs) x ∙ rw length_back (back_entry hs gs _)
 
 -- a prefix is longer than the pattern's last position just where it is the whole pattern
 whole : (m prefix : ℕ) → 1 ≤ m → prefix ≤ m → ltb (m - 1) prefix ≡ eqb prefix m
@@ -60,15 +54,7 @@ pub each_frame : (count : ℕ) (gs : List ℕ) → all_from (length gs) 0 (λ i.
 each_frame count gs e =
     record { frame = λ i l. all_each (length gs) 0 (λ i. is_frame count (get_or gs i 0)) e i (omega arith) (omega arith) }
 
--- where each is one, so is the one at each position of the ring
-pub frame_around : (count : ℕ) (gs : List ℕ) → AllFrames count gs → 1 ≤ length gs → (x g : ℕ) → g ≡ frame_at gs x → is_frame count g ≡ true
-frame_around count gs all some x g e = rw e (all.frame _ (mod-lt x some))
-
 module _ (h q : ℕ) (w hs gs : List ℕ) where
-  -- before position 0 none is walked over
-  pub walked_first : {prefix : ℕ} → prefix ≡ longest_prefix (shown (all_restored hs gs)) w (length w - 1) → Walked h q w hs gs 0 prefix
-  walked_first here = record { here = rw zero-add here; right = λ c l. absurd (omega arith) }
-
   -- no frames at all are right
   pub none_right : length gs ≡ 0 → rule_right h q w hs gs ≡ true
   unfolding rule_right
@@ -102,7 +88,7 @@ module _ (h q : ℕ) (w hs gs : List ℕ) where
         (b prefix next : ℕ) (r : Walked h q w hs gs b prefix)
         (grown : next ≡ extended w prefix (restored_byte hs (frame_at gs (b + (length w - 1))))) where
       next_is : next ≡ longest_prefix (shows h q w hs gs) w (suc (b + (length w - 1)))
-      next_is = prefix_on hs w gs (b + (length w - 1)) prefix next r.here grown
+      next_is = prefix_on (shows h q w hs gs) w (b + (length w - 1)) prefix next _ r.here (sym (shown_back hs gs _)) grown
 
       next_ends : ltb (length w - 1) next ≡ ends_from h q w hs gs b
       next_ends =

@@ -1,6 +1,6 @@
 -- What the functions that test frames ask of each other and tell: frames that are moves or holds, a pattern with its links, which holds of a rule
 -- are right, and how far the frames are walked over. These are definitions.
-use Rattle.std.specs.Prelude.{Bool, true, List, ◌∷◌, ◌≡◌, ℕ, ◌+◌, ◌-◌, ◌%◌, ◌≤◌, ◌<◌, eqb, length, get_or, drop}
+use Rattle.std.specs.Prelude.{Bool, true, false, Option, Some, None, List, ◌∷◌, ◌≡◌, ℕ, ◌+◌, ◌-◌, ◌%◌, ◌≤◌, ◌<◌, eqb, length, get_or, drop}
 use Rattle.std.specs.Bool.{beq}
 use Rattle.tables.specs.Least.{all_from}
 use Rattle.steps.specs.Text.{shown}
@@ -58,3 +58,8 @@ module _ (frame q : ℕ) (w hs gs : List ℕ) where
   pub record Walked (b prefix : ℕ) : Type 0 where
     pub here : prefix ≡ longest_prefix shows w (b + (length w - 1))
     pub right : (c : ℕ) → c < b → holds_at c ≡ ends_from c
+
+  -- what walking over the positions up to `end` tells: the length of the longest prefix that ends then, or none where a hold is not right
+  abbrev pub WalkTold : (end : ℕ) → Option ℕ → Type 0
+  WalkTold end (Some longest) = Walked end longest
+  WalkTold end None = rule_right ≡ false

@@ -1,14 +1,13 @@
 // Which frames are a conversion: the walk over the bytes that they are put back to.
 #![tactic(auto)]
 
-ghost use Rattle.std.specs.Prelude.{◌≡◌, true, ◌<◌, ◌≤◌, length, get_or};
+ghost use Rattle.std.specs.Prelude.{ℕ, ◌≡◌, true, ◌+◌, ◌-◌, ◌<◌, ◌≤◌, length, get_or};
 ghost use Rattle.answers.specs.Refusals.{longest_pattern};
 ghost use Rattle.restore_conversions.specs.Restored.{is_frame, restored_byte, all_restored};
 ghost use Rattle.restore_conversions.specs.Restored.{is_conversion};
 ghost use Rattle.restore_conversions.specs.Walk.{AllFrames, frame_at, behind, ZeroFirst};
-ghost use Rattle.restore_conversions.specs.Walk.{WalkReady, Walked, rule_right};
-ghost use Rattle.restore_prefixes.specs.Links.{LinksTo};
-ghost use Rattle.restore_prefixes.specs.Prefixes.{longest_prefix, extended};
+ghost use Rattle.restore_conversions.specs.Walk.{WalkReady, Walked, WalkTold, rule_right};
+ghost use Rattle.restore_prefixes.specs.Prefixes.{longest_prefix};
 ghost use Rattle.steps.specs.Text.{shown};
 ghost use Rattle.tables.specs.Least.{all_from};
 
@@ -25,18 +24,8 @@ pub fn restored_byte(held: &[u8], frame: u16) -> u8
     } else if frame < HOLD {
         frame as u8
     } else {
-        held[(frame / HOLD) as usize - 1]
+        held[usize::from(frame / HOLD) - 1]
     }
-}
-
-// The same for a walk, with no jump: `bytes` is a 0 and then the bytes that the rules hold, so
-// that a hold of rule k finds its byte at k, and a move, which is its own byte, the 0.
-fn numbered_byte(bytes: &[u8], frame: u16) -> u8
-    requires zero { ZeroFirst bytes.now }
-    requires frame { is_frame (length (behind bytes.now)) frame ≡ true }
-    ensures { result ≡ restored_byte (behind bytes.now) frame }
-{
-    (frame % HOLD) as u8 + bytes[(frame / HOLD) as usize]
 }
 
 // Whether a number is a frame, a move or a hold of one of `count` rules. One rule's are those up to
@@ -58,130 +47,111 @@ pub fn all_frames(count: u16, frames: &[u16]) -> bool
         (λ i. is_frame count (get_or frames.now i 0)) }
 {
     let mut all = true;
-    for at in 0..frames.len() {
-        all = all & is_frame(count, frames[at]);
+    for &frame in frames {
+        all &= is_frame(count, frame);
     }
     all
 }
 
-// The frame at position x of the ring.
-fn frame_at(frames: &[u16], x: usize) -> u16
-    requires { 1 ≤ length frames.now }
-    ensures { result ≡ frame_at frames.now x }
-{
-    frames[ring::wrapped(x, frames.len())]
-}
-
-// The longest prefix of the pattern that ends after a frame, from the longest that ends before it,
-// by the byte that the frame is put back to.
-fn prefix_on(pattern: &[u8], links: &[u8], bytes: &[u8], frame: u16, prefix: usize) -> usize
-    requires some { 1 ≤ length pattern.now }
-    requires linked { LinksTo (length pattern.now) pattern.now links.now }
-    requires zero { ZeroFirst bytes.now }
-    requires frame { is_frame (length (behind bytes.now)) frame ≡ true }
-    requires within { prefix ≤ length pattern.now }
-    ensures { result ≡ extended pattern.now prefix
-        (restored_byte (behind bytes.now) frame) }
-{
-    restore_prefixes::extended(pattern, links, prefix, numbered_byte(bytes, frame))
-}
-
-// The longest prefix of the pattern that ends after the first `count` positions of the ring, by the
-// bytes put back.
-fn prefix_after(pattern: &[u8], links: &[u8], bytes: &[u8], frames: &[u16], count: usize) -> usize
-    requires ready { WalkReady bytes.now pattern.now links.now frames.now }
-    requires some { 1 ≤ length frames.now }
-    ensures { result ≡ longest_prefix
-        (shown (all_restored (behind bytes.now) frames.now)) pattern.now count }
-{
-    let mut prefix = 0;
-    for x in 0..count {
-        prefix = prefix_on(pattern, links, bytes, frame_at(frames, x), prefix);
-    }
-    prefix
-}
-
-// Whether the holds of a rule are right, where the positions before `start` are walked over and
-// `prefix` is the length of the longest prefix that ends before start + m - 1. The frames are read
-// around the ring.
-fn rest_matches(
+// The walk of one rule over frames: the frame of its holds, its hold offset, its pattern with all
+// its links, and a 0 and then the bytes that all rules hold. Nothing compares or copies it.
+#[derive(Drop)]
+struct Walk<'a> {
     hold: u16,
     hold_offset: usize,
-    pattern: &[u8],
-    links: &[u8],
-    bytes: &[u8],
-    frames: &[u16],
-    start: usize,
-    prefix: usize,
-) -> bool
-    requires ready { WalkReady bytes.now pattern.now links.now frames.now }
-    requires some { 1 ≤ length frames.now }
-    requires offset { hold_offset < length pattern.now }
-    requires walked { Walked hold hold_offset pattern.now (behind bytes.now) frames.now
-        start prefix }
-    ensures { result ≡ rule_right hold hold_offset pattern.now (behind bytes.now)
-        frames.now }
-{
-    let last = pattern.len() - 1;
-    let n = frames.len();
-    let mut longest = prefix;
-    for b in start..n {
-        let is_hold = frame_at(frames, b + hold_offset) == hold;
-        let frame = frame_at(frames, b + last);
-        longest = prefix_on(pattern, links, bytes, frame, longest);
-        if is_hold != (last < longest) {
-            return false;
-        }
-    }
-    true
+    pattern: &'a [u8],
+    links: &'a [u8],
+    bytes: &'a [u8],
+    frames: &'a [u16],
+    ghost ready: { WalkReady bytes.now pattern.now links.now frames.now },
+    ghost some: { 1 ≤ length frames.now },
+    ghost offset: { hold_offset < length pattern.now },
 }
 
-// Whether the holds of a rule are right: frame (b + q) modulo n, q being the hold offset (hold
-// place), is `hold` just where the whole pattern ends before b + m, for each b below n. The first
-// m - 1 positions, in which it does not end, are walked before. The whole pattern is the prefix
-// that is longer than its last position. For the first `inside` b, nearly all, it ends inside the
-// frames, which are read as they stand: frame b + q is at b in `holds`, and frame b + m - 1 in
-// `ends`. Of six frames and a pattern of three bytes it ends inside for b from 0 to 3, and around
-// for 4 and 5.
-fn holds_match(
-    hold: u16,
-    hold_offset: usize,
-    pattern: &[u8],
-    links: &[u8],
-    bytes: &[u8],
-    frames: &[u16],
-) -> bool
-    requires ready { WalkReady bytes.now pattern.now links.now frames.now }
-    requires some { 1 ≤ length frames.now }
-    requires offset { hold_offset < length pattern.now }
-    ensures { result ≡ rule_right hold hold_offset pattern.now (behind bytes.now)
-        frames.now }
-{
-    let last = pattern.len() - 1;
-    let mut prefix = prefix_after(pattern, links, bytes, frames, last);
-    if frames.len() <= last {
-        return rest_matches(hold, hold_offset, pattern, links, bytes, frames, 0, prefix);
+impl<'a> Walk<'a> {
+    // The byte that a frame is put back to, with no jump: a hold of rule k finds its byte at k, and
+    // a move, which is its own byte, the 0.
+    fn numbered_byte(&self, frame: u16) -> u8
+        requires { is_frame (length (behind self.now.bytes.now)) frame ≡ true }
+        ensures { result ≡ restored_byte (behind self.now.bytes.now) frame }
+    {
+        (frame % HOLD) as u8 + self.bytes[usize::from(frame / HOLD)]
     }
-    let holds = &frames[hold_offset..];
-    let ends = &frames[last..];
-    let inside = ends.len();
-    for b in 0..inside {
-        let is_hold = holds[b] == hold;
-        prefix = prefix_on(pattern, links, bytes, ends[b], prefix);
-        if is_hold != (last < prefix) {
-            return false;
+
+    // The frame at position x of the ring.
+    fn frame_at(&self, x: usize) -> u16
+        ensures { result ≡ frame_at self.now.frames.now x }
+    {
+        self.frames[ring::wrapped(x, self.frames.len())]
+    }
+
+    // The longest prefix of the pattern that ends after the first `count` positions of the ring, by
+    // the bytes put back.
+    fn prefix_after(&self, count: usize) -> usize
+        ensures { result ≡ longest_prefix
+            (shown (all_restored (behind self.now.bytes.now) self.now.frames.now))
+            self.now.pattern.now count }
+    {
+        restore_prefixes::prefix_after(self.pattern, self.links, count, |x| {
+            self.numbered_byte(self.frame_at(x))
+        })
+    }
+
+    // Walks over the positions b from `start` to `end`, `prefix` being the length of the longest
+    // prefix that ends before start + m - 1: frame b + q, q being the hold offset (hold place), is
+    // `hold` just where the whole pattern, which is longer than its last position, ends before
+    // b + m. The length of the longest prefix that ends then, or none where a hold is not right.
+    // `read` reads the frames.
+    fn walked<F: Fn(usize) -> u16>(
+        &self,
+        start: usize,
+        end: usize,
+        prefix: usize,
+        read: F,
+    ) -> Option<usize>
+        requires forward { start ≤ end }
+        requires inside { end ≤ length self.now.frames.now }
+        requires walked { Walked self.now.hold self.now.hold_offset self.now.pattern.now
+            (behind self.now.bytes.now) self.now.frames.now start prefix }
+        requires reads { (b j : ℕ) → b < end → j < length self.now.pattern.now
+            → F.pre read (b + j) }
+        requires frames { (b j frame : ℕ) → b < end → j < length self.now.pattern.now
+            → F.post read (b + j) frame → frame ≡ frame_at self.now.frames.now (b + j) }
+        ensures { WalkTold self.now.hold self.now.hold_offset self.now.pattern.now
+            (behind self.now.bytes.now) self.now.frames.now end result }
+    {
+        let last = self.pattern.len() - 1;
+        let mut prefix = prefix;
+        for b in start..end {
+            let is_hold = read(b + self.hold_offset) == self.hold;
+            let byte = self.numbered_byte(read(b + last));
+            prefix = restore_prefixes::extended(self.pattern, self.links, prefix, byte);
+            if is_hold != (last < prefix) {
+                return None;
+            }
         }
+        Some(prefix)
     }
-    rest_matches(
-        hold,
-        hold_offset,
-        pattern,
-        links,
-        bytes,
-        frames,
-        inside,
-        prefix,
-    )
+
+    // Whether the holds of the rule are right: frame (b + q) modulo n is `hold` just where the
+    // whole pattern ends before b + m, for each b below n. The first m - 1 positions, in which it
+    // does not end, are walked before. For the first `inside` b, nearly all, it ends inside the
+    // frames, which are read as they stand, with no remainder, and then around the ring. Of six
+    // frames and a pattern of three bytes it ends inside for b from 0 to 3, and around for 4 and 5.
+    fn holds_match(&self) -> bool
+        ensures { result ≡ rule_right self.now.hold self.now.hold_offset self.now.pattern.now
+            (behind self.now.bytes.now) self.now.frames.now }
+    {
+        let last = self.pattern.len() - 1;
+        let n = self.frames.len();
+        let inside = n.saturating_sub(last);
+        let prefix = self.prefix_after(last);
+        let Some(prefix) = self.walked(0, inside, prefix, |x| self.frames[x]) else {
+            return false;
+        };
+        self.walked(inside, n, prefix, |x| self.frame_at(x))
+            .is_some()
+    }
 }
 
 // Whether the holds of one of some rules are right in frames by them; `hold` is the frame of its
@@ -200,11 +170,19 @@ pub fn rule_matches(
     ensures { result ≡ rule_right hold hold_offset pattern.now (behind bytes.now)
         frames.now }
 {
-    if frames.len() == 0 {
+    if frames.is_empty() {
         return true;
     }
     let links = restore_prefixes::links(pattern);
-    holds_match(hold, hold_offset, pattern, &links, bytes, frames)
+    let walk = Walk {
+        hold,
+        hold_offset,
+        pattern,
+        links: &links,
+        bytes,
+        frames,
+    };
+    walk.holds_match()
 }
 
 // Whether frames are a conversion by one pattern; no frames are that of an empty text.

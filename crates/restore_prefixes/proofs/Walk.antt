@@ -68,6 +68,13 @@ links_right w k some few =
     let longer : extended w s (byte w k) ≤ k = omega (arith, l.within, extended_few w s (byte w k)) in
     rw short (within_is (byte w) w (suc k) (extended_longest (k - 1) (byte w) w k s l k (omega arith) (omega arith) longer))
 
+-- the prefix extended by the next byte that is shown
+pub prefix_on :
+    (f : ℕ → ℕ) (w : List ℕ) (x prefix next c : ℕ) → prefix ≡ longest_prefix f w x → c ≡ f x → next ≡ extended w prefix c →
+    next ≡ longest_prefix f w (suc x)
+unfolding ExtendedRight
+prefix_on f w x prefix next c here read grown = grown ∙ sym (extended_right f w x ∙ rw (← here, ← read))
+
 -- what is known of the longest prefix by its equation
 pub prefix_within : (f : ℕ → ℕ) (w : List ℕ) (x prefix : ℕ) → prefix ≡ longest_prefix f w x → prefix ≤ length w
 prefix_within f w x prefix here = rw here (longest_facts f w x).within

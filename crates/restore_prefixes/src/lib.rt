@@ -2,10 +2,10 @@
 // Pratt's links.
 #![tactic(auto)]
 
-ghost use Rattle.std.specs.Prelude.{◌≡◌, ◌+◌, ◌≤◌, length};
+ghost use Rattle.std.specs.Prelude.{ℕ, ◌≡◌, ◌+◌, ◌<◌, ◌≤◌, length};
 ghost use Rattle.answers.specs.Refusals.{longest_pattern};
 ghost use Rattle.restore_prefixes.specs.Links.{LinksTo};
-ghost use Rattle.restore_prefixes.specs.Prefixes.{extended};
+ghost use Rattle.restore_prefixes.specs.Prefixes.{extended, longest_prefix};
 
 use answers::LONGEST_PATTERN;
 
@@ -20,8 +20,9 @@ pub fn extended(pattern: &[u8], links: &[u8], prefix: usize, byte: u8) -> usize
 {
     let mut k = prefix;
     if k == pattern.len() {
-        k = links[k] as usize;
+        k = usize::from(links[k]);
     }
+    // it follows the links, which no range has
     loop {
         if pattern[k] == byte {
             return k + 1;
@@ -29,7 +30,7 @@ pub fn extended(pattern: &[u8], links: &[u8], prefix: usize, byte: u8) -> usize
         if k == 0 {
             return 0;
         }
-        k = links[k] as usize;
+        k = usize::from(links[k]);
     }
 }
 
@@ -41,9 +42,31 @@ pub fn links(pattern: &[u8]) -> [u8; LONGEST_PATTERN + 1]
 {
     let mut links = [0; LONGEST_PATTERN + 1];
     let mut prefix = 0;
-    for k in 1..pattern.len() {
-        prefix = extended(pattern, &links, prefix, pattern[k]);
+    for (k, &byte) in pattern.iter().enumerate().skip(1) {
+        prefix = extended(pattern, &links, prefix, byte);
+        // A link is at most 128, so that it fits: `try_from` would test what is proved.
         links[k + 1] = prefix as u8;
     }
     links
+}
+
+// The longest prefix of a pattern that ends after the first `count` bytes of a text, of which
+// `byte` reads the one at each position.
+pub fn prefix_after<F: Fn(usize) -> u8>(
+    pattern: &[u8],
+    links: &[u8],
+    count: usize,
+    byte: F,
+) -> usize
+    requires some { 1 ≤ length pattern.now }
+    requires linked { LinksTo (length pattern.now) pattern.now links.now }
+    requires read { (x : ℕ) → x < count → F.pre byte x }
+    ensures { (show : ℕ → ℕ) → ((x c : ℕ) → x < count → F.post byte x c → c ≡ show x)
+        → result ≡ longest_prefix show pattern.now count }
+{
+    let mut prefix = 0;
+    for x in 0..count {
+        prefix = extended(pattern, links, prefix, byte(x));
+    }
+    prefix
 }

@@ -1,5 +1,5 @@
--- Lists of numbers that ascend, each once: their entries, and the numbers of a run that pass a test, which are such a list.
--- By induction on the list or on the run.
+-- Lists of numbers that ascend, each once: their entries, and the numbers of a run that pass a
+-- test, which are such a list. By induction on the list or on the run.
 use mathlib.Core.Bool.{Bool, true, false, cond}
 use mathlib.Core.List.{List, [], ◌∷◌}
 use mathlib.Core.Path.{◌≡◌, refl}

@@ -1,5 +1,5 @@
--- Going on and going back around a ring are inverse to each other (`on_inverse`, `back_inverse`); and a position counted from the other end.
--- By the laws of remainders.
+-- Going on and going back around a ring are inverse to each other (`on_inverse`, `back_inverse`);
+-- and a position counted from the other end. By the laws of remainders.
 use mathlib.Core.Bool.{Bool, true, false}
 use mathlib.Core.Logic.{⊎_elim}
 use mathlib.Core.Path.{◌≡◌, refl, sym, ◌∙◌, ap}

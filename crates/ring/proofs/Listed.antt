@@ -1,5 +1,5 @@
--- Which numbers a list has: the numbers that pass a test, a list moved by a function, and how many there are below n.
--- By induction on the list or on the run.
+-- Which numbers a list has: the numbers that pass a test, a list moved by a function, and how many
+-- there are below n. By induction on the list or on the run.
 use mathlib.Core.Bool.{Bool, true, false, ◌||◌}
 use mathlib.Core.List.{List, [], ◌∷◌, map}
 use mathlib.Core.Logic.{◌≢◌, ⊎_elim}
@@ -60,8 +60,8 @@ module _ {n : ℕ} {f g : ℕ → ℕ} (v : Inverse n f g) where
       is_in_moved 0 i (passing n 0 test) (passing_ascends n 0 n test (omega arith)) l
       ∙ is_in_passing n 0 (g i) test (λ y. (omega arith, omega (arith, v.inside_back i l)))
 
-  -- where each number passes a test just where the one that is moved to it passes another, those that pass are those of the other, moved, ascending
-  -- again
+  -- where each number passes a test just where the one that is moved to it passes another, those
+  -- that pass are those of the other, moved, ascending again
   pub passing_moved :
       (test other : ℕ → Bool) → ((i : ℕ) → i < n → test i ≡ other (g i)) → passing n 0 test ≡ ascending n (map f (passing n 0 other))
   unfolding ascending

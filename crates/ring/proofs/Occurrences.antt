@@ -16,7 +16,8 @@ use Rattle.ring.proofs.Listed.{is_in_passing}
 use Rattle.ring.specs.Promises.{OccurrencesAround, OccursAt, OccurrencesMeant}
 use Rattle.ring.specs.Ring.{is_in, passing}
 
--- the occurrences are those of the first k positions that pass the test, where from no other the pattern is shown whole
+-- the occurrences are those of the first k positions that pass the test, where from no other the
+-- pattern is shown whole
 passing_first :
     (count k b : ℕ) (f : ℕ → ℕ) (N : ℕ) (w : List ℕ) → k ≤ count → N < b + k + length w →
     occurrences_from count b f N w ≡ passing k b (occurs f N w)

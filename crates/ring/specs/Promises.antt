@@ -6,7 +6,8 @@ use Rattle.tables.specs.Sets.{byte}
 use Rattle.steps.specs.Occurrences.{occurrences}
 use Rattle.ring.specs.Ring.{is_in, passing, StrictlyAscending}
 
--- the occurrences (finds) are the b from 0 to n - 1 with t((b + j) modulo n) = w(j) for each j from 0 to m - 1, each once and ascending
+-- the occurrences (finds) are the b from 0 to n - 1 with t((b + j) modulo n) = w(j) for each j from
+-- 0 to m - 1, each once and ascending
 unfoldable pub OccurrencesAround : Type 0
 OccurrencesAround =
     (w t : List ℕ) → 1 ≤ length w →

@@ -1,4 +1,5 @@
--- Positions around a ring of n (document 02, "Chains are laced into a ring"), and lists of them. These are definitions.
+-- Positions around a ring of n (document 02, "Chains are laced into a ring"), and lists of them.
+-- These are definitions.
 use Rattle.std.specs.Prelude.{Bool, false, ◌||◌, cond, List, [], ◌∷◌, ℕ, zero, suc, ◌+◌, ◌-◌, ◌%◌, eqb}
 use Rattle.tables.specs.Promises.{Rising}
 

@@ -19,6 +19,7 @@ pub fn wrapped(x: usize, n: usize) -> usize
 }
 
 // The byte (card) that a text (chain) shows at position x.
+#[tactic(auto, using(steps::proofs::Text::shown_at))]
 pub fn byte_at(text: &[u8], x: usize) -> u8
     requires { 1 ≤ length text.now }
     ensures { result ≡ shown text.now x }
@@ -28,6 +29,7 @@ pub fn byte_at(text: &[u8], x: usize) -> u8
 
 // How far a search goes: the pattern (motif) can be laid at each byte of the text, and nothing of
 // an empty text is shown.
+#[tactic(auto, using(steps::proofs::Text::span_none, steps::proofs::Text::span_some))]
 pub fn span(pattern: &[u8], text: &[u8]) -> usize
     requires { length pattern.now + length text.now ≤ 65535 }
     ensures { result ≡ span pattern.now text.now }

@@ -6,9 +6,11 @@ use Prim.Native.Nat.{ℕ, zero, suc, ◌<◌}
 use native.Mathlib.Omega.{arith}
 use lib.ListN.{get_or}
 use Rattle.roles.specs.Roles.{permitted}
-use Rattle.roles.specs.Table.{job_number}
+use Rattle.roles.specs.Table.{job_number, role_number}
 use Rattle.roles.specs.declared.Job.{Job}
 use Rattle.roles.specs.declared.Job.TheVariants.{Convert, Restore, Explain, Price, Edit}
+use Rattle.roles.specs.declared.Role.{Role}
+use Rattle.roles.specs.declared.Role.TheVariants.{Draughtswoman, Mender, Minder}
 
 -- a row for each role, a column for each job
 abbrev pub table : List (List Bool)
@@ -17,14 +19,6 @@ table =
     ∷ (true ∷ true ∷ true ∷ true ∷ false ∷ [])
     ∷ (true ∷ false ∷ true ∷ false ∷ false ∷ [])
     ∷ []
-
--- there are five columns
-pub in_row : (job : Job) → job_number job < 5
-in_row Convert = omega arith
-in_row Restore = omega arith
-in_row Explain = omega arith
-in_row Price = omega arith
-in_row Edit = omega arith
 
 -- the entry of a role and a job
 pub entry_right :
@@ -46,3 +40,9 @@ entry_right (suc (suc zero)) Explain l = refl
 entry_right (suc (suc zero)) Price l = refl
 entry_right (suc (suc zero)) Edit l = refl
 entry_right (suc (suc (suc above))) job l = absurd (omega arith)
+
+-- there are three roles
+pub role_below : (role : Role) → role_number role < 3
+role_below Draughtswoman = omega arith
+role_below Mender = omega arith
+role_below Minder = omega arith

@@ -1,4 +1,5 @@
-// The jobs behind a role: each is the call with a table of rules, behind the test of the role.
+// The jobs behind a role: each is the call with a table of rules, behind the test of the role. A
+// role is the number that C passes, and the buffers stand apart, as C lends them.
 #![tactic(auto)]
 
 ghost use Rattle.roles_calls.specs.Calls.{ConvertAsOutcome, RestoreAsOutcome};
@@ -29,9 +30,8 @@ pub fn convert_as(
         (tables order.new delta2.new delta1.new delta3.new)
         found.old found.new frames.old frames.new result }
 {
-    let status = roles::role_status(role, Job::Convert);
-    if status != 0 {
-        return rules_answers::refused(status);
+    if let Err(reason) = roles::check_role(role, Job::Convert) {
+        return RulesAnswer::from(reason);
     }
     convert_rules::convert_rules(rules, text, order, delta2, delta1, delta3, found, frames)
 }
@@ -41,9 +41,8 @@ pub fn restore_as(role: u32, rules: &[u8; 2081], frames: &[u16], text: &mut [u8]
     ensures { RestoreAsOutcome role rules.now frames.now text.old
         text.new result }
 {
-    let status = roles::role_status(role, Job::Restore);
-    if status != 0 {
-        return answers::status_only(status);
+    if let Err(reason) = roles::check_role(role, Job::Restore) {
+        return Answer::from(reason);
     }
     restore_rules::restore_rules(rules, frames, text)
 }
@@ -65,9 +64,8 @@ pub fn explain_as(
         (tables order.old delta2.old delta1.old delta3.old)
         (tables order.new delta2.new delta1.new delta3.new) result }
 {
-    let status = roles::role_status(role, Job::Explain);
-    if status != 0 {
-        return explain_answers::refused(status);
+    if let Err(reason) = roles::check_role(role, Job::Explain) {
+        return ExplainAnswer::from(reason);
     }
     explain_rule::explain_rule(number, position, rules, text, order, delta2, delta1, delta3)
 }
@@ -88,12 +86,8 @@ pub fn price_as(
         (tables order.new delta2.new delta1.new delta3.new)
         found.old found.new result }
 {
-    let status = roles::role_status(role, Job::Price);
-    if status != 0 {
-        return PriceAnswer {
-            answer: answers::status_only(status),
-            pence: 0,
-        };
+    if let Err(reason) = roles::check_role(role, Job::Price) {
+        return PriceAnswer::from(reason);
     }
     price_rules::price_rules(rules, text, order, delta2, delta1, delta3, found)
 }
@@ -110,9 +104,8 @@ pub fn edit_as(
     ensures { EditAsOutcome role number hold_offset pattern.now rules.old
         rules.new result }
 {
-    let status = roles::role_status(role, Job::Edit);
-    if status != 0 {
-        return answers::status_only(status);
+    if let Err(reason) = roles::check_role(role, Job::Edit) {
+        return Answer::from(reason);
     }
     edit_rule::edit_rule(number, hold_offset, pattern, rules)
 }

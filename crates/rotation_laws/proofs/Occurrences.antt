@@ -18,7 +18,6 @@ use Rattle.steps.specs.Text.{shown, span}
 use Rattle.ring.proofs.Back.{same_test, back_inverse}
 use Rattle.ring.proofs.Listed.{passing_moved, ascending_count}
 use Rattle.ring.proofs.Occurrences.{occurs_in, occurrences_passing, occurrences_ascend}
-use Rattle.ring.specs.Ring.{back}
 use Rattle.rotation_laws.proofs.Rotated.{length_rotated, shown_rotated}
 use Rattle.rotation_laws.specs.Promises.{rotated, rotated_positions, ShownRotated, OccurrencesRotated, NumberRotated, BoundRotated}
 

@@ -1,5 +1,6 @@
 // The library as a Rust or C program links it: every public call, in one archive. Each takes any
-// arguments, and promises what the call of the same name does in its own room.
+// arguments, and promises what the call of the same name does in its own room. Names, parameters
+// and numbers for a role or a way are those of the C interface.
 #![tactic(auto)]
 
 ghost use Rattle.std.specs.Prelude.{◌≡◌};

@@ -1,21 +1,22 @@
 -- Frames of a list of rules as they are written: the holds of the rules that are left are marked
 -- one rule after another, at the entries that are left; in front of a buffer they are the frames in
 -- front of it.
-use mathlib.Core.List.{List, [], ◌∷◌, ◌++◌, append_assoc}
+use mathlib.Core.List.{List, [], ◌∷◌, ◌++◌, append_assoc, map}
 use mathlib.Core.Path.{◌≡◌, refl, sym, ◌∙◌, ap}
 use Prim.Native.Nat.{ℕ, suc, ◌+◌, ◌-◌, ◌≤◌, ◌<◌}
 use native.Mathlib.Numerals.{add-one}
 use native.Mathlib.Omega.{arith}
-use lib.ListN.{length, get_or, take, drop, length-append, length-drop, drop_of_length-le, take-append-drop}
+use lib.ListN.{length, get_or, take, drop, length-append, length-drop, length-map, drop_of_length-le, take-append-drop}
 use lib.Seq.{take_at, drop_at, drop-cons, drop-drop}
+use Rattle.std.proofs.lemmas.List.{get_or-map}
+use Rattle.answers.proofs.Fronts.{in_front_take}
 use Rattle.answers.specs.Buffers.{in_front}
 use Rattle.frames.proofs.Holds.{occurrences_few, length_with_holds, with_holds_append}
 use Rattle.frames.specs.Frames.{holds, with_holds}
 use Rattle.rules.proofs.Listed.{rules_counted, rule_listed}
 use Rattle.rules.specs.Buffers.{one_after_another}
 use Rattle.rules.specs.Rules.{Rule, rule_of, Patterned, count_of, offset_at, rule_at, rules_of}
-use Rattle.rules_answers.proofs.Answered.{rule_told}
-use Rattle.rules_answers.specs.Answers.{nothing_told, all_told}
+use Rattle.rules_answers.specs.Answers.{nothing_told, no_answers, told_of, all_told}
 use Rattle.rules_answers.specs.declared.RuleAnswer.{RuleAnswer}
 use Rattle.rules_claims.specs.Claims.{found_of}
 use Rattle.rules_frames.proofs.Marked.{length_marked}
@@ -78,17 +79,20 @@ module _
 -- occurrences of the others stand from entry `at` on
 pub record UnderWay
     (x t : List ℕ) (answers : List RuleAnswer) (found frames₀ frames : List ℕ) (at i : ℕ) : Type 0 where
-  pub told : answers ≡ all_told (rules_of x) t
+  pub told : answers ≡ map (told_of t) (rules_of x)
   pub within : at ≤ length found
   pub size : length frames ≡ length frames₀
   pub left : MarksLeft (suc i) (drop i (rules_of x)) t (drop at found) frames (marked 1 (rules_of x) t frames₀)
 
 pub none_marked :
-    {x t found frames₀ frames : List ℕ} {answers : List RuleAnswer} → RuleFramesReady x t answers found frames₀ →
-    UnderWay x t answers found frames frames 0 0
-none_marked {x} {t} {found} {frames₀} {frames} ready =
+    {x t found frames₀ frames : List ℕ} {answers : List RuleAnswer} {n : ℕ} →
+    RuleFramesReady x t answers found frames₀ → n ≡ count_of x →
+    UnderWay x t (take n answers) found frames frames 0 0
+unfolding all_told
+none_marked {x} {t} {found} {frames₀} {frames} ready e =
+    let size : length (map (told_of t) (rules_of x)) ≡ count_of x = rw length-map (rules_counted x) in
     record {
-      told = ready.told;
+      told = rw (ready.told, e) (in_front_take (map (told_of t) (rules_of x)) no_answers (count_of x) size);
       within = omega arith;
       size = refl;
       left = all_left (rules_of x) t found frames ready.listed ready.few;
@@ -97,27 +101,35 @@ none_marked {x} {t} {found} {frames₀} {frames} ready =
 module _
     {x t found frames₀ frames : List ℕ} {answers : List RuleAnswer} {at i : ℕ}
     (u : UnderWay x t answers found frames₀ frames at i) where
-  pub all_marked : count_of x ≤ i → frames ≡ marked 1 (rules_of x) t frames₀
+  many : length answers ≡ length (rules_of x)
+  many = rw (u.told, length-map) refl
+
+  pub all_marked : length answers ≤ i → frames ≡ marked 1 (rules_of x) t frames₀
   unfolding marked
-  all_marked l = rw (drop_of_length-le (rules_of x) {i = i} (rw (rules_counted x) l)) at u.left.marks
+  all_marked l = rw (drop_of_length-le (rules_of x) {i = i} (omega (arith, many))) at u.left.marks
 
   -- rule i is next, with as many occurrences as are told of it
-  module _ (l : i < count_of x) where
+  module _ (l : i < length answers) where
     listed : i < length (rules_of x)
-    listed = rw (rules_counted x) l
+    listed = omega (arith, many)
+
+    pub inside : i < count_of x
+    inside = rw rules_counted at listed
 
     here :
         MarksLeft (suc i) (rule_at x i ∷ drop (suc i) (rules_of x)) t (drop at found) frames
         (marked 1 (rules_of x) t frames₀)
-    here = rw (drop-cons (rules_of x) i (rule_of [] 0) listed, rule_listed x i (rule_of [] 0) l) at u.left
+    here = rw (drop-cons (rules_of x) i (rule_of [] 0) listed, rule_listed x i (rule_of [] 0) inside) at u.left
 
     abbrev h : ℕ
     h = (get_or answers i nothing_told).occurrences
 
     counted : h ≡ length (found_of t (rule_at x i))
     counted =
-        rw u.told (ap (λ (a : RuleAnswer). a.occurrences) (rule_told (rules_of x) t i listed))
-        ∙ ap (λ (r : Rule). length (found_of t r)) (rule_listed x i (rule_of [] 0) l)
+        rw u.told
+        (ap (λ (a : RuleAnswer). a.occurrences)
+        (get_or-map (told_of t) (rules_of x) i (rule_of [] 0) nothing_told listed))
+        ∙ ap (λ (r : Rule). length (found_of t r)) (rule_listed x i (rule_of [] 0) inside)
 
     abbrev part : List ℕ
     part = take (at + h - at) (drop at found)

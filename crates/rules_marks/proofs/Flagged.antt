@@ -1,17 +1,16 @@
 -- How many rules that have a flag claim a byte: no more than claim it of all, and where at most one
 -- of them does, at most one of all does, since of two rules that claim it neither is skipped
 -- (`met`).
-use mathlib.Core.Bool.{true, false, cond}
+use mathlib.Core.Bool.{Bool, true, false, cond}
 use mathlib.Core.List.{List, []}
 use mathlib.Core.Logic.{⊎_elim}
 use mathlib.Core.Path.{◌≡◌, refl, ◌∙◌}
 use Prim.Native.Nat.{ℕ, zero, suc, ◌+◌, ◌≤◌, ◌<◌}
 use native.Mathlib.Nat.{eq-or-lt_of_le, le_of_suc-le-suc}
 use native.Mathlib.Omega.{arith}
-use borrow.Author.Tests.{ne_eqb}
 use lib.ListN.{length, get_or, drop}
 use lib.Seq.{drop-cons}
-use Rattle.tables.proofs.Cases.{true_or_false, clash, eq_or_ne, le_or_lt}
+use Rattle.tables.proofs.Cases.{true_or_false, clash, le_or_lt}
 use Rattle.rules.proofs.Listed.{rules_counted, rule_listed}
 use Rattle.rules.specs.Rules.{Rule, rule_of, count_of, rules_of, rule_at}
 use Rattle.rules_claims.proofs.Twice.{two_claimants}
@@ -28,25 +27,25 @@ module _ (t : List ℕ) (c : ℕ) where
   unfolding claimants
   claimants_next rs i l = rw (drop-cons rs i (rule [] 0) l)
 
-  module _ (x flags : List ℕ) where
+  module _ (x : List ℕ) (flags : List Bool) where
     -- those that have a flag and claim c: none before the first, and one rule more
     pub flagged_none : flagged x flags t c 0 ≡ 0
     unfolding flagged
     flagged_none = refl
 
-    pub flagged_skipped : (i : ℕ) → get_or flags i 0 ≡ 0 → flagged x flags t c (suc i) ≡ flagged x flags t c i
+    pub flagged_skipped : (i : ℕ) → get_or flags i false ≡ false → flagged x flags t c (suc i) ≡ flagged x flags t c i
     unfolding flagged
     flagged_skipped i e = rw e
 
     pub flagged_next :
-        (i : ℕ) → (get_or flags i 0 ≡ 0 → ⊥) →
+        (i : ℕ) → (get_or flags i false ≡ true) →
         flagged x flags t c (suc i)
         ≡ cond (claims (rule_at x i) t c) (suc (flagged x flags t c i)) (flagged x flags t c i)
     unfolding flagged
-    flagged_next i ne = rw (ne_eqb (get_or flags i 0) 0 ne)
+    flagged_next i e = rw e
 
     -- where none has a flag there are none
-    pub none_flagged : (i : ℕ) → ((k : ℕ) → k < i → get_or flags k 0 ≡ 0) → flagged x flags t c i ≡ 0
+    pub none_flagged : (i : ℕ) → ((k : ℕ) → k < i → get_or flags k false ≡ false) → flagged x flags t c i ≡ 0
     none_flagged zero h = flagged_none
     none_flagged (suc i) h = flagged_skipped i (h i (omega arith)) ∙ none_flagged i (λ k l. h k (omega arith))
 
@@ -57,12 +56,12 @@ module _ (t : List ℕ) (c : ℕ) where
         ≤ cond (claims (rule_at x i) t c) (suc (flagged x flags t c i)) (flagged x flags t c i)
     few_more i =
         ⊎_elim
-        (λ (e : get_or flags i 0 ≡ 0). ⊎_elim
+        (λ (e : get_or flags i false ≡ true). omega (arith, flagged_next i e))
+        (λ (e : get_or flags i false ≡ false). ⊎_elim
         (λ (y : claims (rule_at x i) t c ≡ true). rw y (omega (arith, flagged_skipped i e)))
         (λ (y : claims (rule_at x i) t c ≡ false). rw y (omega (arith, flagged_skipped i e)))
         (true_or_false (claims (rule_at x i) t c)))
-        (λ (ne : get_or flags i 0 ≡ 0 → ⊥). omega (arith, flagged_next i ne))
-        (eq_or_ne (get_or flags i 0) 0)
+        (true_or_false (get_or flags i false))
 
     -- with those that come after them they are no more than all
     few :
@@ -84,18 +83,18 @@ module _ (t : List ℕ) (c : ℕ) where
 
     -- rule i has a flag and claims c
     record Counts (i : ℕ) : Type 0 where
-      flag : get_or flags i 0 ≡ 0 → ⊥
+      flag : get_or flags i false ≡ true
       claimed : claims (rule_at x i) t c ≡ true
 
     grows : (i : ℕ) → flagged x flags t c i ≤ flagged x flags t c (suc i)
     grows i =
         ⊎_elim
-        (λ e. omega (arith, flagged_skipped i e))
-        (λ ne. ⊎_elim
-        (λ y. omega (arith, rw y at (flagged_next i ne)))
-        (λ y. omega (arith, rw y at (flagged_next i ne)))
+        (λ e. ⊎_elim
+        (λ y. omega (arith, rw y at (flagged_next i e)))
+        (λ y. omega (arith, rw y at (flagged_next i e)))
         (true_or_false (claims (rule_at x i) t c)))
-        (eq_or_ne (get_or flags i 0) 0)
+        (λ e. omega (arith, flagged_skipped i e))
+        (true_or_false (get_or flags i false))
 
     counts_more : (i : ℕ) → Counts i → flagged x flags t c (suc i) ≡ suc (flagged x flags t c i)
     counts_more i k = rw k.claimed at (flagged_next i k.flag)
@@ -124,7 +123,11 @@ module _ (t : List ℕ) (c : ℕ) where
           (i j : ℕ) → i < count_of x → j < count_of x → (i ≡ j → ⊥) → claims (rule_at x i) t c ≡ true →
           claims (rule_at x j) t c ≡ true → Counts i
       not_skipped i j l u ne e e' = record {
-        flag = λ z. clash _ (met (rule_at x i) (rule_at x j) t c below e e') ((skips.apart i l z).apart j u ne);
+        flag =
+            ⊎_elim
+            (λ y. y)
+            (λ z. absurd (clash _ (met (rule_at x i) (rule_at x j) t c below e e') ((skips.apart i l z).apart j u ne)))
+            (true_or_false (get_or flags i false));
         claimed = e;
       }
 

@@ -1,7 +1,7 @@
 -- Marking under way: the longest prefix that ends before the next byte that is read, and the marks
 -- of the bytes before j. A rule claims byte j just where the prefix, extended, is its whole
 -- pattern.
-use mathlib.Core.Bool.{Bool, true, false, cond}
+use mathlib.Core.Bool.{Bool, true, false, true≢false, ◌||◌}
 use mathlib.Core.List.{List}
 use mathlib.Core.Logic.{⊎_elim}
 use mathlib.Core.Path.{◌≡◌, refl, sym, ◌∙◌}
@@ -13,29 +13,25 @@ use lib.Dec.{eqb}
 use lib.ListN.{length, get_or, set, length-set}
 use lib.Seq.{get_or-set_same, get_or-set_other}
 use Rattle.ring.specs.Ring.{back}
-use Rattle.restore_prefixes.proofs.Walk.{prefix_within}
+use Rattle.restore_prefixes.proofs.Walk.{prefix_within, prefix_on}
 use Rattle.restore_prefixes.specs.Prefixes.{longest_prefix, extended}
 use Rattle.rules.specs.Rules.{Rule}
-use Rattle.rules_marks.proofs.Walk.{prefix_on, claims_ends}
+use Rattle.rules_marks.proofs.Walk.{claims_ends}
 use Rattle.rules_claims.specs.Claims.{claims}
-use Rattle.rules_marks.specs.Marks.{shown_from, Markable, Marked, Twice}
+use Rattle.rules_marks.specs.Marks.{shown_from, Markable, Twice}
 
--- one more where a test holds
-abbrev more : Bool → ℕ → ℕ
-more z k = cond z (suc k) k
-
-module _ (r : Rule) (t : List ℕ) (first cards : ℕ) (before : List ℕ) where
+module _ (r : Rule) (t : List ℕ) (first : ℕ) (before : List Bool) where
   -- the ring from q before `first` on
   abbrev pub shows : ℕ → ℕ
   shows = shown_from t (back (length t) first r.hold_offset)
 
-  pub record Marking (marks : List ℕ) (prefix j : ℕ) : Type 0 where
-    pub upto : j ≤ cards
+  pub record Marking (marks : List Bool) (prefix j : ℕ) : Type 0 where
+    pub upto : j ≤ length before
     pub here : prefix ≡ longest_prefix shows r.pattern (length r.pattern - 1 + j)
     pub size : length marks ≡ length before
-    pub entry : (k : ℕ) → k < j → get_or marks k 0 ≡ more (claims r t (first + k)) (get_or before k 0)
-    pub once : (k : ℕ) → k < j → get_or marks k 0 ≤ 1
-    pub rest : (k : ℕ) → j ≤ k → get_or marks k 0 ≡ get_or before k 0
+    pub entry : (k : ℕ) → k < j → get_or marks k false ≡ (claims r t (first + k) || get_or before k false)
+    pub once : (k : ℕ) → k < j → get_or before k false ≡ true → claims r t (first + k) ≡ false
+    pub rest : (k : ℕ) → j ≤ k → get_or marks k false ≡ get_or before k false
 
   pub marking_first :
       {prefix : ℕ} → prefix ≡ longest_prefix shows r.pattern (length r.pattern - 1) → Marking before prefix 0
@@ -50,18 +46,10 @@ module _ (r : Rule) (t : List ℕ) (first cards : ℕ) (before : List ℕ) where
         rest = λ k l. refl;
       }
 
-  pub marking_all :
-      {marks : List ℕ} {prefix j : ℕ} → Marking marks prefix j → cards ≤ j → Marked r t first cards before marks
-  marking_all u l = record {
-    size = u.size;
-    entry = λ k h. u.entry k (omega arith);
-    once = λ k h. u.once k (omega arith);
-  }
-
   -- one byte on
   module _
-      (some : 1 ≤ length r.pattern) (able : Markable t first cards before) {marks : List ℕ} {prefix j next c : ℕ}
-      (u : Marking marks prefix j) (l : j < cards)
+      (some : 1 ≤ length r.pattern) (able : Markable t first (length before)) {marks : List Bool} {prefix j next c : ℕ}
+      (u : Marking marks prefix j) (l : j < length before)
       (read : c ≡ shows (length r.pattern - 1 + j)) (grown : next ≡ extended r.pattern prefix c) where
     next_is : next ≡ longest_prefix shows r.pattern (suc (length r.pattern - 1 + j))
     next_is = prefix_on shows r.pattern _ prefix next c u.here read grown
@@ -96,41 +84,41 @@ module _ (r : Rule) (t : List ℕ) (first cards : ℕ) (before : List ℕ) where
           (λ (e : k ≡ j). rw (e, unclaimed h) (u.rest j (omega arith)))
           (λ (less : k < j). u.entry k less)
           (eq-or-lt_of_le (le_of_suc-le-suc b));
-      once = λ k b.
+      once = λ k b m.
           ⊎_elim
-          (λ (e : k ≡ j). rw e (omega (arith, u.rest j (omega arith), able.once j l)))
-          (λ (less : k < j). u.once k less)
+          (λ (e : k ≡ j). rw e (unclaimed h))
+          (λ (less : k < j). u.once k less m)
           (eq-or-lt_of_le (le_of_suc-le-suc b));
       rest = λ k b. u.rest k (omega arith);
     }
 
     -- it is claimed and marked
-    pub marking_on : length r.pattern - 1 < next → get_or marks j 0 ≡ 0 → Marking (set marks j 1) next (suc j)
+    pub marking_on : length r.pattern - 1 < next → get_or marks j false ≡ false → Marking (set marks j true) next (suc j)
     marking_on h e =
-        let inside : j < length marks = omega (arith, u.size, able.room) in
-        let zero : get_or before j 0 ≡ 0 = sym (u.rest j (omega arith)) ∙ e in
+        let inside : j < length marks = omega (arith, u.size) in
+        let free : get_or before j false ≡ false = sym (u.rest j (omega arith)) ∙ e in
         record {
           upto = l;
           here = next_here;
-          size = length-set marks j 1 ∙ u.size;
+          size = length-set marks j true ∙ u.size;
           entry = λ k b.
               ⊎_elim
-              (λ (e : k ≡ j). rw (e, claimed h, zero) (get_or-set_same marks j 1 0 inside))
-              (λ (less : k < j). get_or-set_other marks j k 1 0 (λ e. omega arith) ∙ u.entry k less)
+              (λ (e : k ≡ j). rw (e, claimed h) (get_or-set_same marks j true false inside))
+              (λ (less : k < j). get_or-set_other marks j k true false (λ e. omega arith) ∙ u.entry k less)
               (eq-or-lt_of_le (le_of_suc-le-suc b));
-          once = λ k b.
+          once = λ k b m.
               ⊎_elim
-              (λ (e : k ≡ j). rw (e, get_or-set_same marks j 1 0 inside) (omega arith))
-              (λ (less : k < j). rw (get_or-set_other marks j k 1 0 (λ e. omega arith)) (u.once k less))
+              (λ (e : k ≡ j). absurd (true≢false (sym m ∙ rw e free)))
+              (λ (less : k < j). u.once k less m)
               (eq-or-lt_of_le (le_of_suc-le-suc b));
-          rest = λ k b. get_or-set_other marks j k 1 0 (λ e. omega arith) ∙ u.rest k (omega arith);
+          rest = λ k b. get_or-set_other marks j k true false (λ e. omega arith) ∙ u.rest k (omega arith);
         }
 
     -- it is claimed and was marked
-    pub marking_found : length r.pattern - 1 < next → (get_or marks j 0 ≡ 0 → ⊥) → Twice r t first cards before
-    marking_found h ne = record {
+    pub marking_found : length r.pattern - 1 < next → get_or marks j false ≡ true → Twice r t first before
+    marking_found h e = record {
       place = j;
       inside = l;
-      marked = omega (arith, u.rest j (omega arith));
+      marked = sym (u.rest j (omega arith)) ∙ e;
       claimed = claimed h;
     }

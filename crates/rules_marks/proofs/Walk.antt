@@ -3,7 +3,7 @@
 -- ring.
 use mathlib.Core.List.{List}
 use mathlib.Core.Path.{◌≡◌, sym, ◌∙◌}
-use Prim.Native.Nat.{ℕ, suc, ◌+◌, ◌%◌, ◌≤◌, ◌<◌}
+use Prim.Native.Nat.{ℕ, ◌+◌, ◌%◌, ◌≤◌, ◌<◌}
 use native.Mathlib.Nat.{mod-add-mod, mod-eq_of_lt}
 use native.Mathlib.Omega.{arith}
 use borrow.Author.Tests.{le-leb}
@@ -16,21 +16,13 @@ use Rattle.steps.specs.Occurrences.{occurs}
 use Rattle.steps.specs.Text.{shown}
 use Rattle.ring.proofs.Back.{back_moved}
 use Rattle.ring.specs.Ring.{back}
-use Rattle.restore_prefixes.proofs.Walk.{extended_right, occurrence_ends}
-use Rattle.restore_prefixes.specs.Prefixes.{longest_prefix, extended}
-use Rattle.restore_prefixes.specs.Promises.{ExtendedRight, OccurrenceEnds}
+use Rattle.restore_prefixes.proofs.Walk.{occurrence_ends}
+use Rattle.restore_prefixes.specs.Prefixes.{longest_prefix}
+use Rattle.restore_prefixes.specs.Promises.{OccurrenceEnds}
 use Rattle.rules.specs.Rules.{Rule}
 use Rattle.rules_claims.proofs.Claimed.{agrees, claims_is}
 use Rattle.rules_claims.specs.Claims.{claims}
 use Rattle.rules_marks.specs.Marks.{shown_from}
-
--- the prefix extended by the next byte that is shown
-pub prefix_on :
-    (f : ℕ → ℕ) (w : List ℕ) (x prefix next c : ℕ) → prefix ≡ longest_prefix f w x → c ≡ f x →
-    next ≡ extended w prefix c →
-    next ≡ longest_prefix f w (suc x)
-unfolding ExtendedRight
-prefix_on f w x prefix next c here read grown = grown ∙ sym (extended_right f w x ∙ rw (← here, ← read))
 
 module _ (t : List ℕ) (first j q : ℕ) (l : first + j < length t) where
   -- q back from `first` and j on is q back from the byte j after it

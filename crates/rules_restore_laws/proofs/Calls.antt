@@ -4,7 +4,8 @@
 use mathlib.Core.List.{List}
 use mathlib.Core.Path.{◌≡◌, refl, sym, ◌∙◌, ap}
 use Prim.Native.Nat.{ℕ}
-use borrow.Author.Tests.{le-ltb}
+use native.Mathlib.Omega.{arith}
+use borrow.Author.Tests.{le-ltb, ltb-false}
 use lib.ListN.{length}
 use Rattle.answers.proofs.Fronts.{in_front_take}
 use Rattle.answers.specs.Answers.{if_done}
@@ -19,8 +20,8 @@ use Rattle.rules_answers.specs.Answers.{rules_answered}
 use Rattle.rules_answers.specs.declared.RulesAnswer.{RulesAnswer}
 use Rattle.rules_frames.proofs.Marked.{length_rule_frames}
 use Rattle.rules_frames.specs.RuleFrames.{rule_frames}
-use Rattle.rules_status.proofs.Measured.{taken_search}
-use Rattle.convert_rules.proofs.Converted.{ConversionTaken, conversion_taken, frames_by}
+use Rattle.rules_status.proofs.Measured.{taken_search, search_taken}
+use Rattle.convert_rules.proofs.Converted.{ConversionTaken, frames_by}
 use Rattle.convert_rules.specs.ConvertRules.{convert_rules_status, convert_rules_status_of, rule_frames_left}
 use Rattle.convert_rules.specs.Paired.{RulesCall, RulesTaken, ConvertsRules}
 use Rattle.rules_conversions.proofs.Restored.{length_restored, converted_restored, conversion_injective}
@@ -59,7 +60,14 @@ converted_to x t c done h =
 module _
     (x t : List ℕ) (c : RulesCall) (size : length x ≡ table_size) (h : ConvertsRules x t c) (e : RulesTaken c) where
   taken_by : ConversionTaken x t (lengths c.lent.tables) (length c.lent.found) (length c.lent.frames)
-  taken_by = conversion_taken size (done_only _ _ h.answer e)
+  unfolding convert_rules_status
+  taken_by =
+      let m = search_taken x t (lengths c.lent.tables) _ size (omega arith) (done_only _ _ h.answer e) in
+      record {
+        measured = m;
+        found_room = ltb-false _ _ m.own_room.0;
+        frames_room = ltb-false _ _ m.own_room.1.0;
+      }
 
   inside_by : Inside (rules_of x)
   inside_by = table_inside x taken_by.measured.table

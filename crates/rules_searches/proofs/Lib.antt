@@ -1,5 +1,4 @@
 pub mod Rooms
 pub mod Parts
 pub mod Rows
-pub mod Filled
 pub mod UnderWay

@@ -12,8 +12,9 @@ use Rattle.answers.specs.declared.Answer.{Answer}
 use Rattle.tables.specs.Buffers.{Tables, tables, tables_left}
 use Rattle.tables.specs.Tables.{stored_order, stored_Δ2, stored_Δ1, stored_Δ3}
 use Rattle.steps.specs.Occurrences.{occurrences}
-use Rattle.search.specs.Search.{SearchFit, found_left, SearchOutcomeOf}
-use Rattle.rules_searches.specs.Parts.{PartFit, PartSearched}
+use Rattle.search.specs.Search.{found_left, SearchOutcomeOf}
+use Rattle.rules_searches.specs.Parts.{PartSearched}
+use Rattle.rules_searches.specs.declared.Before.{Before}
 
 -- the part of a buffer from an entry on
 abbrev rest : {A : Type 0} → (at : ℕ) → List A → List A
@@ -23,12 +24,11 @@ rest at old = take (length old - at) (drop at old)
 abbrev put_back : {A : Type 0} → (at : ℕ) → (part old : List A) → List A
 put_back at part old = take at old ++ (part ++ drop (length old - at) (drop at old))
 
--- the parts of the tables' buffers after rules that are so many, with so many bytes in their
--- patterns
-abbrev parts_of : (bytes rules : ℕ) → Tables → Tables
-parts_of bytes rules x =
-    tables (rest (bytes + rules) x.order) (rest (bytes + rules) x.delta2) (rest (256 * bytes) x.delta1)
-    (rest bytes x.delta3)
+-- the parts of the tables' buffers after the rules before
+abbrev parts_of : Before → Tables → Tables
+parts_of b x =
+    tables (rest (b.bytes + b.rules) x.order) (rest (b.bytes + b.rules) x.delta2) (rest (256 * b.bytes) x.delta1)
+    (rest b.bytes x.delta3)
 
 module _ {A : Type 0} (at : ℕ) (old : List A) where
   -- as many entries as there are from that entry on are all of them
@@ -48,39 +48,20 @@ module _ {A : Type 0} (at : ℕ) (old : List A) where
 
 -- a search whose buffers are parts of others leaves its tables and occurrences there
 pub searched_part :
-    (w t : List ℕ) (bytes rules before : ℕ) (lent : Tables)
-    (found : List ℕ) {left : Tables} {found' : List ℕ} {r : Answer} →
-    SearchOutcomeOf 0 w t (parts_of bytes rules lent) left (rest before found) found' r →
-    PartSearched w t bytes rules before lent
-    (tables (put_back (bytes + rules) left.order lent.order)
-    (put_back (bytes + rules) left.delta2 lent.delta2)
-    (put_back (256 * bytes) left.delta1 lent.delta1) (put_back bytes left.delta3 lent.delta3))
-    found (put_back before found' found) r
+    (w t : List ℕ) (b : Before) (lent : Tables) (found : List ℕ) {left : Tables} {found' : List ℕ} {r : Answer} →
+    SearchOutcomeOf 0 w t (parts_of b lent) left (rest b.occurrences found) found' r →
+    PartSearched w t b lent
+    (tables (put_back (b.bytes + b.rules) left.order lent.order)
+    (put_back (b.bytes + b.rules) left.delta2 lent.delta2)
+    (put_back (256 * b.bytes) left.delta1 lent.delta1) (put_back b.bytes left.delta3 lent.delta3))
+    found (put_back b.occurrences found' found) r
 unfolding tables_left if_done answered found_left
-searched_part w t bytes rules before lent found o =
+searched_part w t b lent found o =
     record {
       answer = o.answer;
-      order = part_put (bytes + rules) lent.order (stored_order w) (ap (λ (x : Tables). x.order) o.tables);
-      delta2 = part_put (bytes + rules) lent.delta2 (stored_Δ2 w) (ap (λ (x : Tables). x.delta2) o.tables);
-      delta1 = part_put (256 * bytes) lent.delta1 (stored_Δ1 w) (ap (λ (x : Tables). x.delta1) o.tables);
-      delta3 = part_put bytes lent.delta3 (stored_Δ3 w) (ap (λ (x : Tables). x.delta3) o.tables);
-      occurrences_left = part_put before found (occurrences w t) o.occurrences_left;
-    }
-
--- the parts have room for what the rule needs
-pub part_ready :
-    (w t : List ℕ) (bytes rules before : ℕ) (lent : Tables) (found : List ℕ) →
-    PartFit w t bytes rules before lent found →
-    SearchFit w t (parts_of bytes rules lent) (rest before found)
-part_ready w t bytes rules before lent found f =
-    record {
-      tables = record {
-        taken = f.taken;
-        order_room = rw (rest_all (bytes + rules) lent.order, length-drop) (omega (arith, f.order_room));
-        delta2_room = rw (rest_all (bytes + rules) lent.delta2, length-drop) (omega (arith, f.delta2_room));
-        delta1_room = rw (rest_all (256 * bytes) lent.delta1, length-drop) (omega (arith, f.delta1_room));
-        delta3_room = rw (rest_all bytes lent.delta3, length-drop) (omega (arith, f.delta3_room));
-      };
-      text = f.text;
-      room = rw (rest_all before found, length-drop) (omega (arith, f.room));
+      order = part_put (b.bytes + b.rules) lent.order (stored_order w) (ap (λ (x : Tables). x.order) o.tables);
+      delta2 = part_put (b.bytes + b.rules) lent.delta2 (stored_Δ2 w) (ap (λ (x : Tables). x.delta2) o.tables);
+      delta1 = part_put (256 * b.bytes) lent.delta1 (stored_Δ1 w) (ap (λ (x : Tables). x.delta1) o.tables);
+      delta3 = part_put b.bytes lent.delta3 (stored_Δ3 w) (ap (λ (x : Tables). x.delta3) o.tables);
+      occurrences_left = part_put b.occurrences found (occurrences w t) o.occurrences_left;
     }

@@ -16,7 +16,7 @@ use Rattle.rules.specs.Buffers.{delta3_of}
 use Rattle.rules.specs.Rules.{Rule, Patterned}
 
 -- what f gives for rules that have a pattern is as long as the sum of what g gives
-pub rows_sum :
+rows_sum :
     {A : Type 0} (f : Rule → List A) (g : Rule → ℕ) → ((r : Rule) → 1 ≤ length r.pattern → length (f r) ≡ g r) →
     (rs : List Rule) → Patterned rs → length (one_after_another f rs) ≡ sum_over g rs
 unfolding one_after_another sum_over Patterned

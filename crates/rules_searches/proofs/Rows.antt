@@ -4,6 +4,7 @@
 use mathlib.Core.List.{List, [], ◌∷◌, ◌++◌, append_assoc, append-nil}
 use mathlib.Core.Path.{◌≡◌, refl, sym, ◌∙◌, ap}
 use Prim.Native.Nat.{ℕ, suc, ◌+◌, ◌≤◌, ◌<◌}
+use native.Mathlib.Numerals.{add-one}
 use native.Mathlib.Omega.{arith}
 use lib.ListN.{length, take, drop, get_or, length-append, drop_of_length-le}
 use lib.Seq.{drop-cons, split_at, take-suc, take_at, drop_at}
@@ -39,7 +40,7 @@ module _ {X A : Type 0} (f : X → List A) (xs : List X) where
   module _
       {old new : List A} {next i : ℕ} (r : RowsWritten old new next i)
       (room : length (one_after_another f xs) ≤ length old) where
-    pub rows_length : length new ≡ length old
+    rows_length : length new ≡ length old
     rows_length = kept_length 0 old r.partly (omega arith)
 
     module _ (d : X) (l : i < length xs) where
@@ -59,9 +60,11 @@ module _ {X A : Type 0} (f : X → List A) (xs : List X) where
 
       pub row_more :
           {new' : List A} {next' : ℕ} → new' ≡ from_entry next (f (get_or xs i d)) new →
-          next' ≡ next + length (f (get_or xs i d)) → RowsWritten old new' next' (suc i)
+          next' ≡ next + length (f (get_or xs i d)) → RowsWritten old new' next' (i + 1)
       row_more e n = record {
-        partly = some_more (f (get_or xs i d)) (one_after_another f (drop (suc i) xs)) due (omega arith) e n;
+        partly =
+            rw add-one
+            (some_more (f (get_or xs i d)) (one_after_another f (drop (suc i) xs)) due (omega arith) e n);
       }
 
     pub rows_ended : length xs ≤ i → new ≡ in_front (one_after_another f xs) old

@@ -5,14 +5,13 @@ use Rattle.answers.specs.Buffers.{in_front}
 use Rattle.answers.specs.Refusals.{longest_text}
 use Rattle.tables.specs.Buffers.{Tables, lengths, short_of}
 use Rattle.rules.specs.Buffers.{one_after_another, all_needed, with_all_tables}
-use Rattle.rules.specs.Rules.{rules_of, TableTaken}
+use Rattle.rules.specs.Rules.{rules_of}
 use Rattle.rules_answers.specs.Answers.{all_told}
 use Rattle.rules_answers.specs.declared.RuleAnswer.{RuleAnswer}
 use Rattle.rules_claims.specs.Claims.{found_of}
 
--- the table and the text are taken, and there is room for all tables and all occurrences (finds)
+-- the text is taken, and there is room for all tables and all occurrences (finds)
 pub record RulesFit (x t : List ℕ) (lent : Tables) (found : List ℕ) : Type 0 where
-  pub taken : TableTaken x
   pub text : length t ≤ longest_text
   pub tables : short_of (all_needed (rules_of x)) (lengths lent) ≡ false
   pub room : length (one_after_another (found_of t) (rules_of x)) ≤ length found

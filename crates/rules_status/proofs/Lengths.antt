@@ -1,15 +1,11 @@
--- What the tables of all rules need, by the bytes of their patterns (`short_is`); the bytes rule by
+-- What the tables of all rules need, by the bytes of their patterns (`needed_is`); the bytes rule by
 -- rule, as a loop sums them up. By induction on the rules.
-use mathlib.Core.Bool.{◌||◌}
 use mathlib.Core.List.{List, [], ◌∷◌}
 use mathlib.Core.Path.{◌≡◌, refl}
 use Prim.Native.Nat.{ℕ, suc, ◌+◌, ◌*◌, ◌≤◌, ◌<◌}
 use native.Mathlib.Omega.{arith}
-use lib.Dec.{ltb}
 use lib.ListN.{length, drop, drop_of_length-le}
 use lib.Seq.{drop-cons}
-use Rattle.tables.specs.Buffers.{short_of}
-use Rattle.tables.specs.declared.TableLengths.{TableLengths}
 use Rattle.rules.proofs.Listed.{rules_counted, rule_listed, pattern_length}
 use Rattle.rules.specs.Buffers.{sum_over, needed_for, all_needed}
 use Rattle.rules.specs.Rules.{Rule, TableTaken, count_of, length_at, rules_of}
@@ -29,13 +25,12 @@ rows_needed [] = refl
 rows_needed (r ∷ rs) = omega (arith, rows_needed rs)
 
 module _ (x : List ℕ) where
-  pub short_is :
-      (l : TableLengths) (bytes count : ℕ) → bytes ≡ bytes_of (rules_of x) → count ≡ count_of x →
-      ltb l.order (bytes + count) || ltb l.delta2 (bytes + count) || ltb l.delta1 (256 * bytes)
-      || ltb l.delta3 bytes
-      ≡ short_of (all_needed (rules_of x)) l
-  short_is l bytes count b k =
-      rw (b, k, ← rules_counted x, more_needed (rules_of x), rows_needed (rules_of x))
+  -- what is needed goes by the bytes of all patterns and the number of rules
+  pub needed_is :
+      (bytes count : ℕ) → bytes ≡ bytes_of (rules_of x) → count ≡ count_of x →
+      record { order = bytes + count; delta2 = bytes + count; delta1 = 256 * bytes; delta3 = bytes }
+      ≡ all_needed (rules_of x)
+  needed_is bytes count b k = rw (b, k, ← rules_counted x, more_needed (rules_of x), rows_needed (rules_of x))
 
   -- the patterns before rule i have so many bytes
   pub record Summed (sum i : ℕ) : Type 0 where

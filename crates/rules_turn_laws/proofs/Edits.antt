@@ -10,7 +10,6 @@ use Rattle.answers.specs.declared.Answer.{Answer}
 use Rattle.tables.proofs.Cases.{eq_or_ne}
 use Rattle.turn.proofs.Calls.{turn_done}
 use Rattle.turn.proofs.Turned.{length_turned}
-use Rattle.turn.specs.Turned.{turned}
 use Rattle.rules.proofs.Listed.{rule_listed, pattern_length}
 use Rattle.rules.proofs.Tested.{table_taken}
 use Rattle.rules.specs.Rules.{Rule, rule_of, rules_of, rule_at, count_of, length_at, TableTaken}

@@ -11,7 +11,6 @@ use Rattle.answers.proofs.Bytes.{bytes_part}
 use Rattle.answers.specs.Bytes.{Bytes}
 use Rattle.tables.specs.declared.TableLengths.{TableLengths}
 use Rattle.turn.proofs.Turned.{index_inside, length_turned}
-use Rattle.turn.specs.Turned.{turned}
 use Rattle.rules.proofs.Listed.{rules_counted, rule_listed}
 use Rattle.rules.proofs.Taken.{inside_each}
 use Rattle.rules.specs.Buffers.{sum_over, needed_for, tables_refusal}

@@ -8,6 +8,7 @@ ghost use Rattle.steps.specs.Bound.{bound};
 // The most comparisons (looks) that demand 3 allows a search for a pattern (motif) of m bytes and
 // this period, with so many occurrences (finds). The span N is how many positions of the text
 // (chain) are shown.
+#[tactic(auto, unfolding(steps::specs::Bound::bound), using(std::proofs::Common::tests))]
 pub fn comparison_bound(m: u32, span: u32, occurrences: u32, period: u32) -> u32
     requires short_pattern { m ≤ longest_pattern }
     requires short_span { span ≤ 65535 }
@@ -21,6 +22,6 @@ pub fn comparison_bound(m: u32, span: u32, occurrences: u32, period: u32) -> u32
     if 3 * period <= m {
         return 2 * span - m;
     }
-    let beyond = if 2 * period < m { m - 2 * period } else { 0 };
+    let beyond = m.saturating_sub(2 * period);
     2 * span - m + occurrences * beyond
 }

@@ -1,5 +1,5 @@
--- The comparisons of one repeat in progress: what the loop over them keeps, how it ends, and how the steps go on from there.
--- Entry i of the row is position m - 1 - i, and it has p entries.
+-- The comparisons of one repeat in progress: what the loop over them keeps, how it ends, and how
+-- the steps go on from there. Entry i of the row is position m - 1 - i, and it has p entries.
 use mathlib.Core.Bool.{true, false}
 use mathlib.Core.List.{List, [], ◌∷◌}
 use mathlib.Core.Logic.{◌≢◌}
@@ -7,7 +7,7 @@ use mathlib.Core.Path.{◌≡◌, refl, sym, ◌∙◌}
 use Prim.Native.Nat.{ℕ, ◌+◌, ◌-◌, ◌≤◌, ◌<◌}
 use native.Mathlib.Omega.{arith}
 use lib.ListN.{length, get_or}
-use Rattle.tables.proofs.RepeatRow.{period_positive, repeat_row_entry}
+use Rattle.tables.proofs.RepeatRow.{repeat_row_entry}
 use Rattle.tables.proofs.Periods.{period_facts}
 use Rattle.tables.specs.Sets.{byte}
 use Rattle.tables.specs.Tables.{period}
@@ -15,7 +15,7 @@ use Rattle.steps.proofs.Rows.{row_repeat, row_length}
 use Rattle.steps.proofs.Text.{shown_byte, span_reaches}
 use Rattle.steps.specs.Steps.{row}
 use Rattle.steps.specs.Text.{shown, span}
-use Rattle.alignment.proofs.Along.{Along, along_none, along_more, along_stop, along_all}
+use Rattle.alignment.proofs.Along.{Along, along_more, along_stop, along_all}
 use Rattle.alignment.proofs.Laying.{after_agreeing, after_differing}
 use Rattle.alignment.specs.Laid.{laid_at, ComparedSo, alignment}
 use Rattle.alignment.specs.Ready.{Taken, RepeatsReady}
@@ -26,9 +26,6 @@ use Rattle.run_state.specs.Progress.{at, Standing, Stretch}
 pub record Repeating (w t : List ℕ) (b i : ℕ) : Type 0 where
   pub fewer : i < period w
   pub along : Along w t b (row w true) i
-
-pub repeating_first : (w t : List ℕ) (b : ℕ) → Repeating w t b 0
-repeating_first w t b = record { fewer = period_positive w; along = along_none w t b (row w true) }
 
 module _ {w t : List ℕ} (taken : Taken w t) {b i : ℕ} (known : Repeating w t b i) where
   -- the position that is compared next

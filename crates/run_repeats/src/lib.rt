@@ -6,34 +6,28 @@ ghost use Rattle.steps.specs.Occurrences.{occurrences};
 ghost use Rattle.alignment.specs.Ready.{RepeatsReady};
 ghost use Rattle.run_state.specs.Progress.{Standing, Followed, Moved};
 
-use alignment::Laid;
+use alignment::Prepared;
 use run_state::Progress;
 
 // Goes by the repeats after an occurrence that end inside the text, p the pattern's period: lists
 // those that are occurrences, and moves on from the first that is not.
-pub fn follow_repeats(
-    pattern: &[u8],
-    text: &[u8],
-    delta1: &[u16],
-    delta3: &[u16],
-    p: usize,
-    begin: Progress,
-    found: &mut [u16],
-) -> Progress
-    requires ready { RepeatsReady pattern.now text.now delta1.now delta3.now p }
-    requires standing { Standing pattern.now text.now begin }
+pub fn follow_repeats(job: &Prepared, p: usize, begin: Progress, found: &mut [u16]) -> Progress
+    requires ready { RepeatsReady job.now.pattern.now job.now.text.now
+        job.now.delta1.now job.now.delta3.now p }
+    requires standing { Standing job.now.pattern.now job.now.text.now begin }
     requires shift { begin.laid.shift ≡ p }
     requires repeat { begin.laid.repeat ≡ true }
-    requires room { length (occurrences pattern.now text.now) ≤ length found.old }
-    ensures followed { Followed pattern.now text.now result.laid }
-    ensures moved { Moved pattern.now text.now begin result
-        found.old found.new }
+    requires room { length (occurrences job.now.pattern.now job.now.text.now) ≤ length found.old }
+    ensures followed { Followed job.now.pattern.now job.now.text.now result.laid }
+    ensures moved { Moved job.now.pattern.now job.now.text.now begin result found.old found.new }
 {
+    let Prepared { pattern, text, .. } = *job;
     let m = pattern.len();
     let mut run = begin;
     'repeats: loop {
         let b = run.laid.position;
         let occurrences = run.occurrences;
+        // Document 01's form, a labelled loop with a labelled break: the index is counted by hand.
         let mut i = 0;
         let agreed = loop {
             if text.len() < b + m {
@@ -49,24 +43,16 @@ pub fn follow_repeats(
             }
         };
         if agreed < p {
-            let s = alignment::repeat_shift(pattern, text, delta1, delta3, p, b, agreed);
+            let s = alignment::repeat_shift(job, p, b, agreed);
             return Progress {
-                laid: Laid {
-                    position: b + s,
-                    shift: s,
-                    repeat: false,
-                },
-                occurrences,
+                laid: run.laid.after(s, false),
                 comparisons: run.comparisons + agreed + 1,
+                ..run
             };
         }
         found[occurrences] = b as u16;
         run = Progress {
-            laid: Laid {
-                position: b + p,
-                shift: p,
-                repeat: true,
-            },
+            laid: run.laid.after(p, true),
             occurrences: occurrences + 1,
             comparisons: run.comparisons + p,
         };

@@ -1,5 +1,6 @@
--- The steps as they go on and write the occurrences into their buffer (`Moved`): nowhere, by one occurrence listed, by a part that lists none, one
--- part after another, and past what is shown. By the laws of `Stretch`, and of entries put after others into a buffer.
+-- The steps as they go on and write the occurrences into their buffer (`Moved`): nowhere, by one
+-- occurrence listed, by a part that lists none, one part after another, and past what is shown. By
+-- the laws of `Stretch`, and of entries put after others into a buffer.
 use mathlib.Core.List.{List, [], ◌∷◌, ◌++◌, append-nil}
 use mathlib.Core.Path.{◌≡◌, sym, ◌∙◌, ap}
 use Prim.Native.Nat.{ℕ, ◌+◌, ◌≤◌, ◌<◌}

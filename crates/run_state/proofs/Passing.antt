@@ -1,5 +1,6 @@
--- Alignments whose first comparison differs: the steps go on from one with nothing listed, one comparison counted and Δ1 as the shift; and where the
--- steps stand once they have passed them. By the law of the pattern as it is laid after such an alignment.
+-- Alignments whose first comparison differs: the steps go on from one with nothing listed, one
+-- comparison counted and Δ1 as the shift; and where the steps stand once they have passed them. By
+-- the law of the pattern as it is laid after such an alignment.
 use mathlib.Core.Bool.{Bool, false}
 use mathlib.Core.List.{List, []}
 use mathlib.Core.Logic.{◌≢◌}
@@ -37,9 +38,3 @@ module _ {w t : List ℕ} (taken : Taken w t) {x : Progress} {b s h n : ℕ} {r 
     pub pass_stop : Followed w t (laid_at b s r) → byte t (b + last) ≡ byte w last → PassedDiffering w t x (at (laid_at b s r) h n)
     pass_stop followed agrees =
         record { stretch = so_far; followed = followed; agrees = λ l. sym agrees ∙ sym (shown_byte t (b + last) inside) }
-
-  -- it does not
-  pub pass_end : length t ≤ b + last → PassedDiffering w t x (at (laid_at b s r) h n)
-  pass_end past =
-      let over : ¬ (b + length w ≤ length t) = λ l. omega (arith, taken.some) in
-      record { stretch = so_far; followed = λ l. absurd (over l); agrees = λ l. absurd (over l) }

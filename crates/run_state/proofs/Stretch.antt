@@ -1,5 +1,6 @@
--- The steps as they go on from where they stand (`Stretch`): by one alignment of which one comparison differs or all agree, and one
--- part after another. Each unfolds one step of the run that remains.
+-- The steps as they go on from where they stand (`Stretch`): by one alignment of which one
+-- comparison differs or all agree, and one part after another. Each unfolds one step of the run
+-- that remains.
 use mathlib.Core.Bool.{cond}
 use mathlib.Core.List.{List, [], ◌∷◌, ◌++◌, append_assoc}
 use mathlib.Core.Path.{◌≡◌, refl, ◌∙◌, ap}

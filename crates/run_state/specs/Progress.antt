@@ -1,4 +1,5 @@
--- Where the steps stand and how they go on (document 01, "The steps"; document 02, "Long repeats"), over a text that is a list. These are definitions.
+-- Where the steps stand and how they go on (document 01, "The steps"; document 02, "Long repeats"),
+-- over a text that is a list. These are definitions.
 use Rattle.std.specs.Prelude.{false, List, [], ◌++◌, ◌≡◌, ℕ, ◌+◌, ◌*◌, ◌-◌, ◌≤◌, length}
 use Rattle.answers.specs.Buffers.{from_entry}
 use Rattle.answers.specs.Refusals.{longest_pattern}
@@ -14,19 +15,21 @@ use Rattle.run_state.specs.declared.Progress.{Progress}
 abbrev pub at : (x : Laid) (occurrences comparisons : ℕ) → Progress
 at x h n = record { laid = x; occurrences = h; comparisons = n }
 
--- the steps can stand here: the position is at most the span, the pattern is laid right, the occurrences so far and those that remain are all, and the
--- comparisons are few
+-- the steps can stand here: the position is at most the span, the pattern is laid right, the
+-- occurrences so far and those that remain are all, and the comparisons are few
 pub record Standing (w t : List ℕ) (x : Progress) : Type 0 where
   pub inside : x.laid.position ≤ span w t
   pub right : LaidRight w x.laid
   pub told : x.occurrences + length (listed (remaining w t x.laid)) ≡ length (occurrences w t)
   pub few : x.comparisons ≤ longest_pattern * x.laid.position
 
--- an alignment that comes next and ends inside the text is no repeat: the repeats there have been followed
+-- an alignment that comes next and ends inside the text is no repeat: the repeats there have been
+-- followed
 abbrev pub Followed : (w t : List ℕ) → (x : Laid) → Type 0
 Followed w t x = x.position + length w ≤ length t → x.repeat ≡ false
 
--- the steps go on from x to y: these occurrences and the comparisons counted are of the alignments in between, the others remain
+-- the steps go on from x to y: these occurrences and the comparisons counted are of the alignments
+-- in between, the others remain
 pub record Stretch (w t : List ℕ) (x y : Progress) (new : List ℕ) : Type 0 where
   pub standing : Standing w t y
   pub forward : x.laid.position ≤ y.laid.position
@@ -35,7 +38,8 @@ pub record Stretch (w t : List ℕ) (x y : Progress) (new : List ℕ) : Type 0 w
   pub comparisons_on :
       x.comparisons + length (comparisons_of (remaining w t x.laid)) ≡ y.comparisons + length (comparisons_of (remaining w t y.laid))
 
--- the steps go on from x to y past alignments whose first comparison differs: at y it agrees, if y ends inside the text
+-- the steps go on from x to y past alignments whose first comparison differs: at y it agrees, if y
+-- ends inside the text
 pub record PassedDiffering (w t : List ℕ) (x y : Progress) : Type 0 where
   pub stretch : Stretch w t x y []
   pub followed : Followed w t y.laid

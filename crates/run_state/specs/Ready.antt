@@ -4,7 +4,8 @@ use Rattle.tables.specs.Tables.{stored_order, period}
 use Rattle.steps.specs.Occurrences.{occurrences}
 use Rattle.alignment.specs.Ready.{Begins, ShiftTablesReady}
 
--- a pattern and a text that are taken, with the tables of shifts in front of their buffers, and room for the occurrences
+-- a pattern and a text that are taken, with the tables of shifts in front of their buffers, and
+-- room for the occurrences
 pub record ShiftsReady (w t delta2 delta1 delta3 found : List ℕ) : Type 0 where
   pub tables : ShiftTablesReady w t delta2 delta1 delta3 (period w)
   pub room : length (occurrences w t) ≤ length found

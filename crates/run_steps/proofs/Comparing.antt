@@ -1,5 +1,6 @@
--- The comparisons of one alignment by the order in progress: what the loop over them keeps, how it ends, and how the steps go on from there.
--- An entry of the order is read as a signed number: it is a position, or -1 just after the last.
+-- The comparisons of one alignment by the order in progress: what the loop over them keeps, how it
+-- ends, and how the steps go on from there. An entry of the order is read as a signed number: it is
+-- a position, or -1 just after the last.
 use mathlib.Core.Bool.{true, false}
 use mathlib.Core.List.{List, [], ◌∷◌}
 use mathlib.Core.Logic.{◌≢◌}
@@ -29,7 +30,8 @@ use Rattle.run_state.proofs.Stretch.{stretch_differing, stretch_agreeing}
 use Rattle.run_state.specs.Progress.{at, Standing, Stretch, PassedDiffering}
 use Rattle.run_state.specs.declared.Progress.{Progress}
 
--- i comparisons of the alignment by the order agreed, the first among them, if it ends inside the text
+-- i comparisons of the alignment by the order agreed, the first among them, if it ends inside the
+-- text
 pub record Comparing (w t : List ℕ) (x : Laid) (i : ℕ) : Type 0 where
   pub some : 1 ≤ i
   pub within : i ≤ length w
@@ -97,9 +99,6 @@ module _ {w t : List ℕ} (row : List ℤ) (taken : Taken w t) (ready : Begins (
 
         next : position row i ≡ get_or (order w) i 0
         next = ap nat_abs (at_position in_order)
-
-        pub is_position : entry row i ≡ pos (position row i)
-        is_position = at_position in_order ∙ ap pos (sym next)
 
         pub in_pattern : position row i < length w
         in_pattern = omega (arith, next, order_below w taken.some i in_row)

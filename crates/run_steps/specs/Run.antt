@@ -1,4 +1,5 @@
--- What running the steps leaves (document 01, "The steps"; document 02, "Long repeats"), over a text that is a list. These are definitions.
+-- What running the steps leaves (document 01, "The steps"; document 02, "Long repeats"), over a
+-- text that is a list. These are definitions.
 use Rattle.std.specs.Prelude.{List, ◌≡◌, ℕ, length}
 use Rattle.answers.specs.Buffers.{in_front}
 use Rattle.steps.specs.Occurrences.{occurrences}

@@ -8,11 +8,11 @@ ghost use Rattle.run_state.specs.Progress.{at, Standing, Followed, Moved};
 ghost use Rattle.run_state.specs.Ready.{ShiftsReady, RunReady};
 ghost use Rattle.run_steps.specs.Run.{RunOutcome};
 
-use alignment::Laid;
+use alignment::{Laid, Prepared};
 use run_state::Progress;
 
 // What the steps come to.
-#[derive(Drop)]
+#[derive(Clone, Copy, Debug, PartialEq, Eq)]
 pub struct Counts {
     pub occurrences: u32,
     pub comparisons: u32,
@@ -20,77 +20,55 @@ pub struct Counts {
 
 // Moves on from an alignment by the order of which so many comparisons agreed: by Δ2, and after an
 // occurrence, which it lists, by the repeats where the pattern repeats.
-fn move_on(
-    pattern: &[u8],
-    text: &[u8],
-    delta2: &[u16],
-    delta1: &[u16],
-    delta3: &[u16],
-    here: Progress,
-    agreed: usize,
-    found: &mut [u16],
-) -> Progress
-    requires ready { ShiftsReady pattern.now text.now delta2.now delta1.now delta3.now
-        found.old }
-    requires standing { Standing pattern.now text.now here }
+fn move_on(job: &Prepared, here: Progress, agreed: usize, found: &mut [u16]) -> Progress
+    requires ready { ShiftsReady job.now.pattern.now job.now.text.now
+        job.now.delta2.now job.now.delta1.now job.now.delta3.now found.old }
+    requires standing { Standing job.now.pattern.now job.now.text.now here }
     requires by_order { here.laid.repeat ≡ false }
-    requires compared { ComparedSo pattern.now text.now here.laid agreed }
+    requires compared { ComparedSo job.now.pattern.now job.now.text.now here.laid agreed }
     requires some { 1 ≤ agreed }
     ensures forward { here.laid.position < result.laid.position }
-    ensures followed { Followed pattern.now text.now result.laid }
-    ensures moved { Moved pattern.now text.now here result
-        found.old found.new }
+    ensures followed { Followed job.now.pattern.now job.now.text.now result.laid }
+    ensures moved { Moved job.now.pattern.now job.now.text.now here result found.old found.new }
 {
-    let m = pattern.len();
-    let b = here.laid.position;
+    let m = job.pattern.len();
     let occurrences = here.occurrences;
-    let comparisons = here.comparisons;
-    let s = delta2[agreed] as usize;
+    let s = usize::from(job.delta2[agreed]);
     if agreed < m {
         return Progress {
-            laid: Laid {
-                position: b + s,
-                shift: s,
-                repeat: false,
-            },
-            occurrences,
-            comparisons: comparisons + agreed + 1,
+            laid: here.laid.after(s, false),
+            comparisons: here.comparisons + agreed + 1,
+            ..here
         };
     }
-    found[occurrences] = b as u16;
+    found[occurrences] = here.laid.position as u16;
     let repeat = 3 * s <= m;
     let next = Progress {
-        laid: Laid {
-            position: b + s,
-            shift: s,
-            repeat,
-        },
+        laid: here.laid.after(s, repeat),
         occurrences: occurrences + 1,
-        comparisons: comparisons + m,
+        comparisons: here.comparisons + m,
     };
     if !repeat {
         return next;
     }
-    run_repeats::follow_repeats(pattern, text, delta1, delta3, s, next, found)
+    run_repeats::follow_repeats(job, s, next, found)
 }
 
 // Every alignment that ends inside the text: lists the occurrences, counts, and tells where the
 // steps stand then. The text's end ends both loops, and the order's -1 the comparisons of an
 // occurrence.
-fn run_inside(
-    pattern: &[u8],
-    text: &[u8],
-    order: &[i16],
-    delta2: &[u16],
-    delta1: &[u16],
-    delta3: &[u16],
-    found: &mut [u16],
-) -> Progress
-    requires { RunReady pattern.now text.now order.now delta2.now delta1.now
-        delta3.now found.old }
-    ensures { Moved pattern.now text.now (at (laid_first pattern.now) 0 0) result
-        found.old found.new }
+fn run_inside(job: &Prepared, found: &mut [u16]) -> Progress
+    requires { RunReady job.now.pattern.now job.now.text.now job.now.order.now
+        job.now.delta2.now job.now.delta1.now job.now.delta3.now found.old }
+    ensures { Moved job.now.pattern.now job.now.text.now
+        (at (laid_first job.now.pattern.now) 0 0) result found.old found.new }
 {
+    let Prepared {
+        pattern,
+        text,
+        order,
+        ..
+    } = *job;
     let m = pattern.len();
     let mut run = Progress {
         laid: Laid {
@@ -102,8 +80,9 @@ fn run_inside(
         comparisons: 0,
     };
     'alignments: loop {
-        run = run_state::pass_differing(pattern, text, delta1, run);
+        run = run_state::pass_differing(job, run);
         let b = run.laid.position;
+        // Document 01's form, a labelled loop with a labelled break: the index is counted by hand.
         let mut i = 1;
         let agreed = loop {
             if text.len() < b + m {
@@ -119,27 +98,19 @@ fn run_inside(
             }
             i += 1;
         };
-        run = move_on(pattern, text, delta2, delta1, delta3, run, agreed, found);
+        run = move_on(job, run, agreed, found);
     }
     run
 }
 
 // Every alignment of the pattern: lists the occurrences and counts.
-pub fn run_steps(
-    pattern: &[u8],
-    text: &[u8],
-    order: &[i16],
-    delta2: &[u16],
-    delta1: &[u16],
-    delta3: &[u16],
-    found: &mut [u16],
-) -> Counts
-    requires { RunReady pattern.now text.now order.now delta2.now delta1.now
-        delta3.now found.old }
-    ensures { RunOutcome pattern.now text.now found.old found.new result }
+pub fn run_steps(job: &Prepared, found: &mut [u16]) -> Counts
+    requires { RunReady job.now.pattern.now job.now.text.now job.now.order.now
+        job.now.delta2.now job.now.delta1.now job.now.delta3.now found.old }
+    ensures { RunOutcome job.now.pattern.now job.now.text.now found.old found.new result }
 {
-    let seam = run_inside(pattern, text, order, delta2, delta1, delta3, found);
-    let run = run_wrapping::run_wrapping(pattern, text, order, delta2, delta1, delta3, seam, found);
+    let seam = run_inside(job, found);
+    let run = run_wrapping::run_wrapping(job, seam, found);
     Counts {
         occurrences: run.occurrences as u32,
         comparisons: run.comparisons as u32,

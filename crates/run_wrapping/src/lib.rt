@@ -8,34 +8,30 @@ ghost use Rattle.alignment.specs.Laid.{ComparedSo};
 ghost use Rattle.run_state.specs.Progress.{Standing, Moved};
 ghost use Rattle.run_state.specs.Ready.{RunReady};
 
+use alignment::Prepared;
 use run_state::Progress;
 
 // Moves on from an alignment of which so many comparisons agreed, p the pattern's period: counts,
 // lists an occurrence, and lays the pattern anew.
 fn move_around(
-    pattern: &[u8],
-    text: &[u8],
-    delta2: &[u16],
-    delta1: &[u16],
-    delta3: &[u16],
+    job: &Prepared,
     p: usize,
     here: Progress,
     agreed: usize,
     found: &mut [u16],
 ) -> Progress
-    requires ready { ShiftTablesReady pattern.now text.now delta2.now delta1.now
-        delta3.now p }
-    requires room { length (occurrences pattern.now text.now) ≤ length found.old }
-    requires standing { Standing pattern.now text.now here }
-    requires compared { ComparedSo pattern.now text.now here.laid agreed }
+    requires ready { ShiftTablesReady job.now.pattern.now job.now.text.now
+        job.now.delta2.now job.now.delta1.now job.now.delta3.now p }
+    requires room { length (occurrences job.now.pattern.now job.now.text.now) ≤ length found.old }
+    requires standing { Standing job.now.pattern.now job.now.text.now here }
+    requires compared { ComparedSo job.now.pattern.now job.now.text.now here.laid agreed }
     ensures forward { here.laid.position < result.laid.position }
-    ensures moved { Moved pattern.now text.now here result
-        found.old found.new }
+    ensures moved { Moved job.now.pattern.now job.now.text.now here result found.old found.new }
 {
-    let laid = alignment::laid_after(pattern, text, delta2, delta1, delta3, p, here.laid, agreed);
+    let laid = alignment::laid_after(job, p, here.laid, agreed);
     let mut occurrences = here.occurrences;
     let mut comparisons = here.comparisons + agreed;
-    if agreed == alignment::row_length(pattern, p, here.laid.repeat) {
+    if agreed == alignment::row_length(job.pattern, p, here.laid.repeat) {
         found[occurrences] = here.laid.position as u16;
         occurrences += 1;
     } else {
@@ -51,29 +47,27 @@ fn move_around(
 // Goes by every alignment from where the steps stand up to the text's last byte: lists the
 // occurrences and counts. Past that byte the pattern would go past what is shown, which ends both
 // loops. The period stands in Δ2 after its last entry for a position.
-pub fn run_wrapping(
-    pattern: &[u8],
-    text: &[u8],
-    order: &[i16],
-    delta2: &[u16],
-    delta1: &[u16],
-    delta3: &[u16],
-    begin: Progress,
-    found: &mut [u16],
-) -> Progress
-    requires ready { RunReady pattern.now text.now order.now delta2.now delta1.now
-        delta3.now found.old }
-    requires standing { Standing pattern.now text.now begin }
-    ensures past { length text.now ≤ result.laid.position }
-    ensures moved { Moved pattern.now text.now begin result
-        found.old found.new }
+pub fn run_wrapping(job: &Prepared, begin: Progress, found: &mut [u16]) -> Progress
+    requires ready { RunReady job.now.pattern.now job.now.text.now job.now.order.now
+        job.now.delta2.now job.now.delta1.now job.now.delta3.now found.old }
+    requires standing { Standing job.now.pattern.now job.now.text.now begin }
+    ensures past { length job.now.text.now ≤ result.laid.position }
+    ensures moved { Moved job.now.pattern.now job.now.text.now begin result found.old found.new }
 {
-    let p = delta2[pattern.len()] as usize;
+    let Prepared {
+        pattern,
+        text,
+        order,
+        delta2,
+        ..
+    } = *job;
+    let p = usize::from(delta2[pattern.len()]);
     let mut run = begin;
     'alignments: loop {
         let b = run.laid.position;
         let repeat = run.laid.repeat;
         let count = alignment::row_length(pattern, p, repeat);
+        // Document 01's form, a labelled loop with a labelled break: the index is counted by hand.
         let mut i = 0;
         let agreed = loop {
             if i == count {
@@ -88,7 +82,7 @@ pub fn run_wrapping(
             }
             i += 1;
         };
-        run = move_around(pattern, text, delta2, delta1, delta3, p, run, agreed, found);
+        run = move_around(job, p, run, agreed, found);
     }
     run
 }

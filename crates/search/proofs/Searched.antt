@@ -1,5 +1,6 @@
--- What searching answers and leaves, put together from what its parts do: what it is that a search is taken, refused, and done.
--- A search is taken where none of its conditions holds; the tables stand in front of their buffers once they are written.
+-- What searching answers and leaves, put together from what its parts do: what it is that a search
+-- is taken, refused, and done. A search is taken where none of its conditions holds; the tables
+-- stand in front of their buffers once they are written.
 use mathlib.Core.List.{List, [], ◌∷◌}
 use mathlib.Core.Path.{◌≡◌, refl, sym, ◌∙◌}
 use Prim.Native.Nat.{ℕ, ◌+◌, ◌≤◌, ◌<◌}

@@ -4,9 +4,11 @@
 ghost use Rattle.search.specs.Search.{SearchFit, SearchOutcomeOf, SearchOutcome};
 ghost use Rattle.tables.specs.Buffers.{tables};
 
+use alignment::Prepared;
 use answers::Answer;
 
 // Searches where nothing is left to measure.
+// The buffers stand apart, as C lends them: a struct of `&mut` would be named in every clause.
 pub fn search_within(
     pattern: &[u8],
     text: &[u8],
@@ -24,7 +26,15 @@ pub fn search_within(
         found.old found.new result }
 {
     let period = prepare::write_tables(pattern, order, delta2, delta1, delta3);
-    let counts = run_steps::run_steps(pattern, text, order, delta2, delta1, delta3, found);
+    let job = Prepared {
+        pattern,
+        text,
+        order,
+        delta2,
+        delta1,
+        delta3,
+    };
+    let counts = run_steps::run_steps(&job, found);
     let h = counts.occurrences;
     let span = ring::span(pattern, text);
     let bound = run_bound::comparison_bound(pattern.len() as u32, span as u32, h, period);
@@ -50,9 +60,8 @@ pub fn search(
 {
     let lengths = tables::lengths(order, delta2, delta1, delta3);
     let n = text.len();
-    let status = tables::status(pattern.len(), 0, n, lengths, found.len() < n);
-    if status != 0 {
-        return answers::status_only(status);
+    if let Err(reason) = tables::check(pattern.len(), 0, n, lengths, found.len() < n) {
+        return Answer::from(reason);
     }
     search_within(pattern, text, order, delta2, delta1, delta3, found)
 }

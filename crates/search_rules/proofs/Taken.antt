@@ -35,7 +35,6 @@ pub rules_fit :
 unfolding FewFound
 rules_fit {x} {t} m room =
     record {
-      taken = m.table;
       text = m.text;
       tables = m.tables_room;
       room = omega (arith, few_found (rules_of x) t (λ e. table_patterned x m.table) m.once);
@@ -52,11 +51,11 @@ status_is x t found {l' = l'} measured e = rw e at measured ∙ sym (measured_on
 -- a call that is taken
 pub search_fit :
     {x t : List ℕ} {lent : Tables} {found : List ℕ} → length x ≡ table_size →
-    search_rules_status_of x t lent found ≡ 0 →
-    RulesFit x t lent found
+    0 ≡ search_rules_status_of x t lent found → RulesFit x t lent found
 unfolding search_rules_status
 search_fit {x} {t} {lent} {found} size e =
-    let m = search_taken x t (lengths lent) (buffer_refusal (length found) (length t) ∷ []) size (omega arith) e in
+    let own = buffer_refusal (length found) (length t) ∷ [] in
+    let m = search_taken x t (lengths lent) own size (omega arith) (sym e) in
     rules_fit m (ltb-false _ _ m.own_room.0)
 
 module _ {t : List ℕ} {lent : Tables} {found : List ℕ} where

@@ -9,6 +9,7 @@ use rules_answers::RulesAnswer;
 // Lists every occurrence (find) of each rule's pattern (motif) in the text (chain), one rule's
 // after another's, and answers for each rule what a search for it alone answers, and whether it
 // found nothing. Nothing is written before all is measured.
+// The buffers stand apart, as C lends them.
 pub fn search_rules(
     rules: &[u8; 2081],
     text: &[u8],
@@ -24,13 +25,12 @@ pub fn search_rules(
         found.old found.new result }
 {
     let lengths = tables::lengths(order, delta2, delta1, delta3);
-    let status = rules_status::status(rules, text, lengths, found.len() < text.len());
-    if status != 0 {
-        return rules_answers::refused(status);
-    }
-    RulesAnswer {
-        status: 0,
-        ones: 0,
-        rules: rules_searches::search_all(rules, text, order, delta2, delta1, delta3, found),
+    match rules_status::check(rules, text, lengths, found.len() < text.len()) {
+        Ok(rules) => RulesAnswer {
+            status: 0,
+            ones: 0,
+            rules: rules_searches::search_all(&rules, text, order, delta2, delta1, delta3, found),
+        },
+        Err(reason) => RulesAnswer::from(reason),
     }
 }

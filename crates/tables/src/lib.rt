@@ -3,11 +3,14 @@
 #![tactic(auto)]
 
 ghost use Rattle.std.specs.Prelude.{◌≡◌, ◌≤◌};
+ghost use Rattle.answers.specs.Reasons.{status_of};
 ghost use Rattle.answers.specs.Refusals.{longest_pattern};
-ghost use Rattle.tables.specs.Buffers.{tables, lengths, tables_short, measured_status};
+ghost use Rattle.tables.specs.Buffers.{tables, lengths, needed, short_of, measured_status};
 
-// How many entries the caller's buffers for the tables have.
-#[derive(Drop)]
+use answers::Reason;
+
+// How many entries buffers for the tables have, or need.
+#[derive(Clone, Copy, Debug, PartialEq, Eq)]
 pub struct TableLengths {
     pub order: usize,
     pub delta2: usize,
@@ -15,7 +18,33 @@ pub struct TableLengths {
     pub delta3: usize,
 }
 
-// The lengths of these buffers.
+impl TableLengths {
+    // What the tables of a pattern of m bytes need.
+    pub fn needed(m: usize) -> TableLengths
+        requires { m ≤ longest_pattern }
+        ensures { result ≡ needed m }
+    {
+        TableLengths {
+            order: m + 1,
+            delta2: m + 1,
+            delta1: 256 * m,
+            delta3: m,
+        }
+    }
+
+    // Whether one of these lengths is less than what is needed. All are tested, so that it is one
+    // expression.
+    pub fn short_of(self, needed: TableLengths) -> bool
+        ensures { result ≡ short_of needed self }
+    {
+        (self.order < needed.order)
+            | (self.delta2 < needed.delta2)
+            | (self.delta1 < needed.delta1)
+            | (self.delta3 < needed.delta3)
+    }
+}
+
+// The lengths of the caller's buffers for the tables, which stand apart, as C lends them.
 pub fn lengths(order: &[i16], delta2: &[u16], delta1: &[u16], delta3: &[u16]) -> TableLengths
     ensures { result ≡ lengths (tables order.now delta2.now delta1.now delta3.now) }
 {
@@ -27,31 +56,22 @@ pub fn lengths(order: &[i16], delta2: &[u16], delta1: &[u16], delta3: &[u16]) ->
     }
 }
 
-// Whether buffers of these lengths are too short for the tables of a pattern of m bytes. All are
-// tested, so that it is one expression.
-fn too_short(m: usize, lengths: TableLengths) -> bool
-    requires { m ≤ longest_pattern }
-    ensures { result ≡ tables_short m lengths }
+// What a call that works the tables out measures before anything is written: 4, 5 and 6, in this
+// order; then 7 where the buffers for the tables are too short or, as `short` says, those that the
+// call has besides. A call that takes no hold offset (hold place) passes 0 for it, and one that
+// takes no text (chain) passes 0 for n.
+pub fn check(
+    m: usize,
+    hold_offset: usize,
+    n: usize,
+    lengths: TableLengths,
+    short: bool,
+) -> Result<(), Reason>
+    ensures { status_of result ≡ measured_status m hold_offset n lengths short }
 {
-    (lengths.order < m + 1)
-        | (lengths.delta2 < m + 1)
-        | (lengths.delta1 < 256 * m)
-        | (lengths.delta3 < m)
-}
-
-// The status of a call that works the tables out, measured before anything is written. It is 4, 5
-// or 6, in this order; then 7 where the buffers for the tables are too short or, as `short` says,
-// those that the call has besides; or 0. A call that takes no hold offset (hold place) passes 0
-// for it, and one that takes no text (chain) passes 0 for n.
-pub fn status(m: usize, hold_offset: usize, n: usize, lengths: TableLengths, short: bool) -> u32
-    ensures { result ≡ measured_status m hold_offset n lengths short }
-{
-    let status = answers::job_status(m, hold_offset, n);
-    if status != 0 {
-        return status;
+    answers::check_job(m, hold_offset, n)?;
+    if lengths.short_of(TableLengths::needed(m)) | short {
+        return Err(Reason::ShortBuffer);
     }
-    if too_short(m, lengths) | short {
-        return 7;
-    }
-    0
+    Ok(())
 }

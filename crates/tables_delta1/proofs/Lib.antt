@@ -1,4 +1,4 @@
-pub mod Changed
+pub mod Fronts
 pub mod Grid
 pub mod Parts
 pub mod Settled

@@ -7,11 +7,11 @@ use Prim.Native.Nat.{ℕ, zero, suc, ◌+◌, ◌*◌, ◌-◌, ◌≤◌, ◌<�
 use native.Mathlib.Numerals.{add-one}
 use native.Mathlib.Omega.{arith}
 use borrow.Author.Tests.{eq-eqb, ne_eqb}
-use lib.ListN.{length, get_or, set}
+use lib.ListN.{length, get_or, set, replicate, get_or-replicate}
 use lib.Seq.{get_or-set_same, get_or-set_other}
 use Rattle.tables.proofs.Cases.{eq_or_ne}
 use Rattle.tables_delta1.proofs.Grid.{row_end, rows_apart}
-use Rattle.tables_delta1.specs.Rows.{Filled, last_below, Linked, entry, RowEnds}
+use Rattle.tables_delta1.specs.Rows.{last_below, Linked, entry, RowEnds}
 use Rattle.tables.specs.Sets.{byte}
 
 module _ (w : List ℕ) (c : ℕ) where
@@ -51,15 +51,15 @@ module _ (w : List ℕ) (c : ℕ) where
       (eq_or_ne (byte w i) c)
 
 -- a table that is filled with m has the rows' ends for no position
-pub filled_ends : (w table : List ℕ) → length table ≡ 256 * length w → Filled (length w) table → RowEnds w 0 table
-filled_ends w table n filled =
+pub filled_ends : (w : List ℕ) (n : ℕ) {table : List ℕ} → n ≡ 256 * length w → table ≡ replicate n (length w) → RowEnds w 0 table
+filled_ends w n {table} whole filled =
     record {
       ends = λ c x b e. at c x b (omega arith) ∙ omega (arith, last_none w c);
       others = λ c x b h. at c x b (omega arith);
     }
   where
     at : (c x : ℕ) → c < 256 → x < length w → entry table (length w) c x ≡ length w
-    at c x b h = filled (c * length w + x) (omega (arith, row_end (length w) c 256 b))
+    at c x b h = rw filled (get_or-replicate n (c * length w + x) (length w) 0 (omega (arith, row_end (length w) c 256 b)))
 
 -- what stands at a row's end, and the last position that has the byte, are m together
 pub end_entry :

@@ -6,7 +6,7 @@
 ghost use Rattle.std.specs.Prelude.{◌≡◌, ◌*◌, ◌-◌, ◌≤◌, ◌<◌, length};
 ghost use Rattle.answers.specs.Buffers.{in_front};
 ghost use Rattle.answers.specs.Refusals.{longest_pattern};
-ghost use Rattle.tables_delta1.specs.Rows.{EachChanged, Filled, Reversed, Lowered};
+ghost use Rattle.tables_delta1.specs.Rows.{Filled, Reversed, Lowered};
 ghost use Rattle.tables_delta1.specs.Rows.{Linked, Sizes, RowEnds, RowBegun, RightRow};
 ghost use Rattle.tables_delta1.specs.Rows.{RowsBegun, RightTable};
 ghost use Rattle.tables.specs.Sets.{byte};
@@ -14,17 +14,9 @@ ghost use Rattle.tables.specs.Tables.{stored_Δ1};
 
 use answers::LONGEST_PATTERN;
 
-// What stands past the end of the reversed pattern. No byte has this value.
+// What stands past the end of the reversed pattern. No byte has this value: a number, and no
+// Option, so that a sweep is one loop over the whole row.
 const PAST: u16 = 256;
-
-// Fills a table with one value.
-fn fill(table: &mut [u16], value: u16)
-    ensures { EachChanged (λ i e. value) table.old table.new }
-{
-    for i in 0..table.len() {
-        table[i] = value;
-    }
-}
 
 // Copies the pattern backwards, its last byte first, in front of what the table is filled with.
 fn reverse(pattern: &[u8], reversed: &mut [u16])
@@ -33,8 +25,8 @@ fn reverse(pattern: &[u8], reversed: &mut [u16])
     ensures { Reversed pattern.now reversed.new }
 {
     let m = pattern.len();
-    for i in 0..m {
-        reversed[i] = pattern[m - 1 - i] as u16;
+    for (i, &b) in pattern.iter().enumerate() {
+        reversed[m - 1 - i] = b as u16;
     }
 }
 
@@ -51,8 +43,8 @@ fn link(pattern: &[u8], last: &mut [u8], table: &mut [u16])
     ensures ends { RowEnds pattern.now (length pattern.now - 1) table.new }
 {
     let m = pattern.len();
-    for i in 0..m - 1 {
-        let end = pattern[i] as usize * m + m - 1;
+    for (i, &b) in pattern[..m - 1].iter().enumerate() {
+        let end = b as usize * m + m - 1;
         last[i + 1] = (m - table[end] as usize) as u8;
         table[end] = (m - 1 - i) as u16;
     }
@@ -65,13 +57,12 @@ fn lower(known: &[u16], moved: &[u16], shift: u16, row: &mut [u16])
     requires moved { length moved.now ≡ length row.old }
     ensures { Lowered known.now moved.now shift row.old row.new }
 {
-    for i in 0..row.len() {
-        let entry = row[i];
+    for (i, entry) in row.iter_mut().enumerate() {
         let allowed = (moved[i] == PAST) | (moved[i] == known[i]);
-        row[i] = if allowed & (shift < entry) {
+        *entry = if allowed & (shift < *entry) {
             shift
         } else {
-            entry
+            *entry
         };
     }
 }
@@ -89,6 +80,7 @@ fn write_row(pattern: &[u8], reversed: &[u16], last: &[u8], position: usize, row
     let m = pattern.len();
     let known = &reversed[1..m + 1];
     let mut at = position + 1;
+    // it follows the links, which no range has
     while at > 0 {
         let shift = m - at;
         let moved = &reversed[shift + 1..shift + 1 + m];
@@ -104,8 +96,8 @@ fn write_rows(pattern: &[u8], reversed: &[u16], last: &[u8], table: &mut [u16])
     ensures { RightTable pattern.now table.new }
 {
     let m = pattern.len();
-    for i in 0..m - 1 {
-        let start = pattern[i] as usize * m;
+    for (i, &b) in pattern[..m - 1].iter().enumerate() {
+        let start = b as usize * m;
         let end = start + m;
         if table[end - 1] as usize == m - 1 - i {
             write_row(pattern, reversed, last, i, &mut table[start..end]);
@@ -121,9 +113,10 @@ fn write_table(pattern: &[u8], table: &mut [u16])
     ensures { table.new ≡ stored_Δ1 pattern.now }
 {
     let mut reversed: [u16; 256] = [PAST; 256];
+    // the last occurrences stay numbers in an array of 129 entries, 0 for none: document 01's form
     let mut last: [u8; LONGEST_PATTERN + 1] = [0; LONGEST_PATTERN + 1];
     reverse(pattern, &mut reversed);
-    fill(table, pattern.len() as u16);
+    table.fill(pattern.len() as u16);
     link(pattern, &mut last, table);
     write_rows(pattern, &reversed, &last, table);
 }

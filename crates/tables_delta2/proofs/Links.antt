@@ -1,6 +1,8 @@
 -- The linked shifts while they are narrowed by an entry h: those below k keep what h shows too. A shift that keeps it stays linked, another one is
 -- unlinked (`stays`, `goes`), and past h the shifts are narrowed and the least that is allowed is known (`narrowed`, `least_left`).
 -- Between a linked shift and the next there is none, so that a turn settles all up to the next.
+use Rattle.std.specs.Prelude.{Option, None, Some}
+use Rattle.std.specs.Option.{option_or, unwrap_or}
 use mathlib.Core.List.{List}
 use mathlib.Core.Logic.{◌≢◌, ◌⊎◌, inl, inr, ⊎_elim}
 use mathlib.Core.Path.{◌≡◌, refl, sym, ◌∙◌}
@@ -33,15 +35,25 @@ Keeps w h k = OutNeg w (byte w h) h k
 abbrev Settled : (w : List ℕ) (i h k x : ℕ) → Type 0
 Settled w i h k x = Left w i x × (x < k → Keeps w h x)
 
--- `least` is the least linked shift below k that does not keep what h shows, or 0 where each does and is at most h
-abbrev LeastUnlinked : (w : List ℕ) (i h least k : ℕ) → Type 0
-LeastUnlinked w i h least k =
-    ((least ≡ 0) × ((z : ℕ) → 1 ≤ z → z < k → Left w i z → InPos w (byte w h) h z))
-    ⊎ ((1 ≤ least) × (least < k) × Left w i least × InNeg w (byte w h) h least
-    × ((z : ℕ) → 1 ≤ z → z < least → Left w i z → InPos w (byte w h) h z))
+-- each shift left from 1 to below k keeps what h shows and is at most h
+abbrev AllKeep : (w : List ℕ) (i h k : ℕ) → Type 0
+AllKeep w i h k = (z : ℕ) → 1 ≤ z → z < k → Left w i z → InPos w (byte w h) h z
+
+-- x is the least shift left that does not keep what h shows
+pub record IsUnlinked (w : List ℕ) (i h k x : ℕ) : Type 0 where
+  pub positive : 1 ≤ x
+  pub below : x < k
+  pub left : Left w i x
+  pub differs : InNeg w (byte w h) h x
+  pub before : AllKeep w i h x
+
+-- `least` is that shift, if there is one below k
+abbrev LeastUnlinked : (w : List ℕ) (i h : ℕ) (least : Option ℕ) (k : ℕ) → Type 0
+LeastUnlinked w i h None k = AllKeep w i h k
+LeastUnlinked w i h (Some x) k = IsUnlinked w i h k x
 
 -- the loop at the linked shift k, with the linked one before it
-pub record Narrowing (w : List ℕ) (i h : ℕ) (next : List ℕ) (least before k : ℕ) : Type 0 where
+pub record Narrowing (w : List ℕ) (i h : ℕ) (next : List ℕ) (least : Option ℕ) (before k : ℕ) : Type 0 where
   pub positive : 1 ≤ k
   pub within : k ≤ length w
   pub linked_here : Left w i k
@@ -57,7 +69,7 @@ zero_keeps w h x e l = let none : h - x ≡ h = omega arith in rw none
 
 module _ {w : List ℕ} {i h : ℕ} where
   -- at the first linked shift nothing is settled
-  pub narrowing_begins : {next : List ℕ} → 1 ≤ length w → ShiftsLinked w i next → Narrowing w i h next 0 0 (get_or next 0 0)
+  pub narrowing_begins : {next : List ℕ} → 1 ≤ length w → ShiftsLinked w i next → Narrowing w i h next None 0 (get_or next 0 0)
   narrowing_begins {next} some r =
       let first = r.after 0 some (inl refl) in
       let settled : (x : ℕ) → Left w i x → Settled w i h (get_or next 0 0) x = λ x q.
@@ -70,10 +82,10 @@ module _ {w : List ℕ} {i h : ℕ} where
         before_below = first.above;
         before_linked = inl refl;
         none_between = λ z a b q. first.none_between z a b q.0;
-        least_so_far = inl (refl, λ z a b q. absurd (first.none_between z a b q));
+        least_so_far = λ z a b q. absurd (first.none_between z a b q);
       }
 
-  module _ {next : List ℕ} {least before k : ℕ} (r : Narrowing w i h next least before k) (inside : h < length w) (turn : k ≤ h) where
+  module _ {next : List ℕ} {least : Option ℕ} {before k : ℕ} (r : Narrowing w i h next least before k) (inside : h < length w) (turn : k ≤ h) where
     abbrev after : ℕ
     after = get_or next k 0
 
@@ -101,7 +113,6 @@ module _ {w : List ℕ} {i h : ℕ} where
     -- where k keeps what h shows, it stays linked
     pub stays : byte w (h - k) ≡ byte w h → Narrowing w i h next least k after
     stays same =
-        let here : InPos w (byte w h) h k = (turn, same) in
         record {
           positive = omega (arith, next_is.above);
           within = next_is.within;
@@ -110,18 +121,22 @@ module _ {w : List ℕ} {i h : ℕ} where
           before_below = next_is.above;
           before_linked = inr (r.linked_here, λ b l. same);
           none_between = λ z a b q. none_after z a b q.0;
-          least_so_far =
-              ⊎_elim
-              (λ (none, all). inl (
-                none,
-                λ z a b q.
-                    ⊎_elim
-                    (λ l. ⊎_elim (λ e. rw e at here) (λ c. absurd (none_after z c b q)) (eq-or-lt_of_le l))
-                    (λ l. all z a l q)
-                    (le_or_lt k z),
-              ))
-              (λ (some, low, keep, miss, all). inr (some, omega (arith, next_is.above), keep, miss, all))
-              r.least_so_far;
+          least_so_far = kept least r.least_so_far;
+        }
+      where
+        kept : (x : Option ℕ) → LeastUnlinked w i h x k → LeastUnlinked w i h x after
+        kept None all = λ z a b q.
+            let here : InPos w (byte w h) h k = (turn, same) in
+            ⊎_elim
+            (λ l. ⊎_elim (λ e. rw e at here) (λ c. absurd (none_after z c b q)) (eq-or-lt_of_le l))
+            (λ l. all z a l q)
+            (le_or_lt k z)
+        kept (Some x) u = record {
+          positive = u.positive;
+          below = omega (arith, u.below, next_is.above);
+          left = u.left;
+          differs = u.differs;
+          before = u.before;
         }
 
     -- else it is unlinked
@@ -174,10 +189,25 @@ module _ {w : List ℕ} {i h : ℕ} where
             (eq_or_ne x before);
       }
 
-      pub goes :
-          (least' : ℕ) → ((least ≡ 0) × (least' ≡ k)) ⊎ ((least ≢ 0) × (least' ≡ least)) →
-          Narrowing w i h (set next before after) least' before after
-      goes least' chosen = record {
+      -- and k is the least one where there was none
+      unlinked : (x : Option ℕ) → LeastUnlinked w i h x k → LeastUnlinked w i h (option_or x (Some k)) after
+      unlinked None all = record {
+        positive = r.positive;
+        below = next_is.above;
+        left = r.linked_here;
+        differs = (turn, differs);
+        before = all;
+      }
+      unlinked (Some x) u = record {
+        positive = u.positive;
+        below = omega (arith, u.below, next_is.above);
+        left = u.left;
+        differs = u.differs;
+        before = u.before;
+      }
+
+      pub goes : Narrowing w i h (set next before after) (option_or least (Some k)) before after
+      goes = record {
         positive = omega (arith, next_is.above);
         within = next_is.within;
         linked_here = next_is.has.0;
@@ -185,24 +215,12 @@ module _ {w : List ℕ} {i h : ℕ} where
         before_below = omega (arith, r.before_below, next_is.above);
         before_linked = ⊎_elim inl (λ q. inr (q.0, λ b. q.1 r.before_below)) r.before_linked;
         none_between = none_up_to;
-        least_so_far =
-            ⊎_elim
-            (λ (none, all).
-            ⊎_elim
-            (λ (_, e). rw e (inr (r.positive, next_is.above, r.linked_here, (turn, differs), all)))
-            (λ (some, e). absurd (some none))
-            chosen)
-            (λ (some, low, keep, miss, all).
-            ⊎_elim
-            (λ (none, e). absurd (omega arith))
-            (λ (_, e). rw e (inr (some, omega (arith, next_is.above), keep, miss, all)))
-            chosen)
-            r.least_so_far;
+        least_so_far = unlinked least r.least_so_far;
       }
 
   -- past h the shifts are narrowed by it
   module _
-      {next : List ℕ} {least before k : ℕ} (r : Narrowing w i h next least before k) (some : i < length w)
+      {next : List ℕ} {least : Option ℕ} {before k : ℕ} (r : Narrowing w i h next least before k) (some : i < length w)
       (at : get_or (order w) i 0 ≡ h) (past : h < k) where
     pub narrowed : ShiftsLinked w (suc i) next
     narrowed = linked_same all_keep settled r.linked
@@ -217,33 +235,21 @@ module _ {w : List ℕ} {i h : ℕ} where
         settled x (keep, no_period) = ((λ y l. keep y (omega arith), no_period), λ b. rw at at (keep i (omega arith)))
 
     -- and the least that was unlinked, or else k, is the least that is allowed
-    pub least_left : (v : ℕ) → ((0 < least) × (v ≡ least)) ⊎ ((least ≤ 0) × (v ≡ k)) → LeastLeft w i v
-    least_left v chosen =
-        ⊎_elim
-        (λ (none, all).
-        ⊎_elim
-        (λ (l, e). absurd (omega arith))
-        (λ (l, e).
-        rw e
-        (record {
+    pub least_left : LeastLeft w i (unwrap_or least k)
+    least_left = of least r.least_so_far
+      where
+        of : (x : Option ℕ) → LeastUnlinked w i h x k → LeastLeft w i (unwrap_or x k)
+        of None all = record {
           positive = r.positive;
           within = r.within;
           left = r.linked_here;
           unlike = λ _. rw at (λ (b, q). omega arith);
           least = λ j a b left unlike. unlike some (rw at (all j a b left));
-        }))
-        chosen)
-        (λ (positive, low, left, (turn, differs), all).
-        ⊎_elim
-        (λ (l, e).
-        rw e
-        (record {
-          positive = positive;
-          within = omega (arith, r.within);
-          left = left;
-          unlike = λ _. rw at (λ (b, q). differs q);
-          least = λ j a b left unlike. unlike some (rw at (all j a b left));
-        }))
-        (λ (l, e). absurd (omega arith))
-        chosen)
-        r.least_so_far
+        }
+        of (Some x) u = record {
+          positive = u.positive;
+          within = omega (arith, u.below, r.within);
+          left = u.left;
+          unlike = λ _. rw at (λ (b, q). u.differs.1 q);
+          least = λ j a b left unlike. unlike some (rw at (u.before j a b left));
+        }

@@ -1,6 +1,7 @@
 // Δ2 beside the order, in the caller's buffer. In the third group it is r_min(h), the least period
 // above h. For the second group the shifts that are no period are linked, and each entry unlinks
-// those that do not keep what it shows.
+// those that do not keep what it shows. k_min and r_min stay arrays of 129 entries, passed each by
+// itself: document 01's form.
 #![tactic(auto)]
 
 ghost use Rattle.std.specs.Prelude.{◌≡◌, ◌+◌, ◌≤◌, ◌<◌, length};
@@ -25,15 +26,15 @@ fn link_shifts(
     requires size { length next.old ≡ longest_pattern + 1 }
     ensures { ShiftsLinked pattern.now 0 next.new }
 {
+    let m = pattern.len();
     // m is linked, though it is a period
-    let mut k = pattern.len();
-    let mut after = k;
-    while k > 0 {
+    let mut after = m;
+    // a shift as well as an index: enumerate, skip and rev together are no plainer
+    for k in (1..=m).rev() {
         if r_min[k - 1] as usize != k {
             after = k;
         }
-        k -= 1;
-        next[k] = after as u16;
+        next[k - 1] = after as u16;
     }
 }
 
@@ -55,21 +56,20 @@ fn narrow(pattern: &[u8], order: &[i16], i: usize, next: &mut [u16; LONGEST_PATT
     let mut k = next[0];
     // the last shift that stays linked, 0 before the first
     let mut before = 0;
-    // the least one that was unlinked, 0 while there is none
-    let mut least = 0;
+    // the least one that was unlinked
+    let mut least = None;
+    // it follows the links, which no range has
     while k as usize <= h {
         let after = next[k as usize];
         if pattern[h - k as usize] == pattern[h] {
             before = k as usize;
         } else {
             next[before] = after;
-            if least == 0 {
-                least = k;
-            }
+            least = least.or(Some(k));
         }
         k = after;
     }
-    if least > 0 { least } else { k }
+    least.unwrap_or(k)
 }
 
 // Writes Δ2 beside the order: 0 for the first entry, and after the last the period, r_min(0).
@@ -92,6 +92,7 @@ pub fn write_delta2(
     // where the first entry differs, the shift is Δ1's
     narrow(pattern, order, 0, &mut next);
     delta2[0] = 0;
+    // by index: an iterator that skips entry 0 is no plainer, since `narrow` and Δ2 take i too
     for i in 1..m {
         let h = order[i] as usize;
         // the shift is from k_min(h) to r_min(h); in the third group, where k_min(h) is 0, only
@@ -103,7 +104,7 @@ pub fn write_delta2(
         } else {
             upper
         };
-        delta2[i] = if k < upper { k } else { upper };
+        delta2[i] = k.min(upper);
     }
     delta2[m] = r_min[0];
 }

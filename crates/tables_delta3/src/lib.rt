@@ -1,35 +1,15 @@
 // Δ3, the shifts of a pattern that repeats, in the caller's buffer, by h_min and r_min in tables of
-// 129 entries.
+// 129 entries. They stay arrays, passed each by itself: document 01's form.
 #![tactic(auto)]
 
-ghost use Rattle.std.specs.Prelude.{◌≡◌, ◌+◌, ◌*◌, ◌-◌, ◌≤◌, length, get_or};
+ghost use Rattle.std.specs.Prelude.{◌≡◌, ◌+◌, ◌*◌, ◌-◌, ◌≤◌, length};
 ghost use Rattle.answers.specs.Buffers.{in_front};
 ghost use Rattle.answers.specs.Refusals.{longest_pattern};
-ghost use Rattle.tables_delta3.specs.Values.{Zeros, ValuesFrom};
+ghost use Rattle.tables_delta3.specs.Values.{ValuesFrom};
 ghost use Rattle.tables_minima.specs.Minima.{HMinTable, RMinTable};
 ghost use Rattle.tables.specs.Tables.{r_min, period, Δ3, stored_Δ3};
 
 use answers::LONGEST_PATTERN;
-
-// Fills a table with 0.
-fn clear(table: &mut [u16])
-    ensures { Zeros table.new }
-{
-    for i in 0..table.len() {
-        table[i] = 0;
-    }
-}
-
-// Copies r_min(i) to entry i of a table for each i from `begin` on.
-fn copy_from(r_min: &[u16; LONGEST_PATTERN + 1], begin: usize, table: &mut [u16])
-    requires within { length table.old ≤ longest_pattern + 1 }
-    requires zeros { Zeros table.old }
-    ensures { ValuesFrom begin (λ i. get_or r_min.now i 0) table.new }
-{
-    for i in begin..table.len() {
-        table[i] = r_min[i];
-    }
-}
 
 // Lowers each of the last p entries i from r_min(i) to the least k at most i with h_min(k) = i for
 // which k + p is a period or at least m, if there is one. k falls, so the least is stored last;
@@ -48,14 +28,13 @@ fn lower_last(pattern: &[u8], h_min: &[i16; LONGEST_PATTERN + 1], p: usize, tabl
         table.new }
 {
     let m = pattern.len();
-    let mut k = m - 1;
-    while k + 2 * p > m {
+    // a shift as well as an index: enumerate, skip and rev together are no plainer
+    for k in (m - 2 * p + 1..m).rev() {
         let h = h_min[k];
         let far = k + p;
         if h - k as i16 >= 0 && (far >= m || h_min[far] - (far as i16) < 0) {
             table[h as usize] = k as u16;
         }
-        k -= 1;
     }
 }
 
@@ -74,9 +53,9 @@ fn write_table(
 {
     let m = pattern.len();
     let p = r_min[0] as usize;
-    clear(table);
+    table.fill(0);
     if 3 * p <= m {
-        copy_from(r_min, m - p, table);
+        table[m - p..].copy_from_slice(&r_min[m - p..m]);
         lower_last(pattern, h_min, p, table);
         table[m - 1] = 0;
     }

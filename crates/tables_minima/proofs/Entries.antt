@@ -7,10 +7,10 @@ use native.Mathlib.Omega.{arith}
 use lib.IntN.{ℤ, pos, sub_ℕ, ◌-ℤ◌}
 use lib.ListN.{length, get_or}
 use mir.Syntax.{w16}
-use mir.Val.{SFits, to_z, of_z}
+use mir.Val.{to_z, of_z}
 use mir.ValLaws.{to_z_pos}
 use Rattle.tables.proofs.HMin.{h_min_facts}
-use Rattle.tables_minima.proofs.Signed.{difference, difference_fits, difference_back}
+use Rattle.tables_minima.proofs.Signed.{difference, difference_back}
 use Rattle.tables.specs.Tables.{h_min}
 use Rattle.tables.specs.Buffers.{PatternTaken}
 use Rattle.tables_minima.specs.Minima.{HMinTable}
@@ -26,7 +26,6 @@ minus t k = to_z w16 (entry t k) -ℤ to_z w16 k
 pub record Read (w : List ℕ) (t : List ℤ) (k : ℕ) : Type 0 where
   pub back : to_z w16 (entry t k) ≡ pos (h_min w k)
   pub small : h_min w k < 128
-  pub minus_fits : SFits w16 (minus t k)
   pub minus_back : to_z w16 (of_z w16 (minus t k)) ≡ sub_ℕ (h_min w k) k
 
 pub read_one :
@@ -39,7 +38,6 @@ read_one {w} taken t k l u e =
     record {
       back = rw e (to_z_pos w16 (h_min w k) h<);
       small = omega arith;
-      minus_fits = rw minus_is (difference_fits (h_min w k) k h< k<);
       minus_back = rw minus_is (difference_back (h_min w k) k h< k<);
     }
 

@@ -3,7 +3,7 @@
 use mathlib.Core.Bool.{false}
 use mathlib.Core.Logic.{⊎_elim}
 use mathlib.Core.Path.{◌≡◌, refl, sym, ◌∙◌, ap}
-use Prim.Native.Nat.{ℕ, zero, suc, ◌+◌, ◌-◌, ◌%◌, ◌^◌, ◌≤◌, ◌<◌}
+use Prim.Native.Nat.{ℕ, zero, suc, ◌+◌, ◌-◌, ◌^◌, ◌≤◌, ◌<◌}
 use native.Mathlib.Omega.{arith}
 use borrow.Author.Tests.{lt-ltb, le-ltb, le-leb, lt-leb}
 use lib.Dec.{ltb, leb}
@@ -35,18 +35,11 @@ module _ (a b : ℕ) (ha : a < 2 ^ 15) (hb : b < 2 ^ 15) where
   pub difference_fits : SFits w16 (sub_ℕ a b)
   difference_fits = by_order (SFits w16) a b (λ h. record { sfits = omega (arith, hb) }) (λ h. record { sfits = omega (arith, ha) })
 
-  -- its bits
-  pub difference_bits : of_z w16 (sub_ℕ a b) ≡ (a + 65536 - b) % 65536
-  difference_bits = by_order (λ z. of_z w16 z ≡ (a + 65536 - b) % 65536) a b (λ h. omega (arith, hb)) (λ h. omega (arith, ha))
-
   pub difference_back : to_z w16 (of_z w16 (sub_ℕ a b)) ≡ sub_ℕ a b
   difference_back = to_z-of_z w16 (sub_ℕ a b) difference_fits
 
 pub predecessor : (a : ℕ) → 1 ≤ a → a < 2 ^ 15 → to_z w16 a -ℤ pos 1 ≡ pos (a - 1)
 predecessor a l u = difference a 1 u (omega arith) ∙ subℕ_pos a 1 l
-
-pub predecessor_fits : (a : ℕ) → 1 ≤ a → a < 2 ^ 15 → SFits w16 (to_z w16 a -ℤ pos 1)
-predecessor_fits a l u = rw (predecessor a l u) (record { sfits = omega arith })
 
 -- a test of a difference is a test of the two numbers
 pub at_least_zero : (a b : ℕ) → le_z (pos 0) (sub_ℕ a b) ≡ leb b a

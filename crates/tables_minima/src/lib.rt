@@ -1,4 +1,5 @@
 // Colussi's h_min, k_min and r_min, each in a table of 129 entries that are all 0 to begin with.
+// They stay arrays, filled in place and passed each by itself: document 01's form.
 #![tactic(auto)]
 
 ghost use Rattle.std.specs.Prelude.{◌≡◌, ◌+◌, pos, length, replicate};
@@ -18,6 +19,7 @@ fn h_min_from(pattern: &[u8], k: usize, from: usize) -> i16
 {
     // the position k below the one that is compared, -1 once the pattern's front is passed
     let mut below = from as i16 - k as i16;
+    // document 01's form, which stays: compared around zero in signed numbers, which no range has
     while below >= 0 && pattern[below as usize] == pattern[below as usize + k] {
         below -= 1;
     }
@@ -39,7 +41,8 @@ pub fn h_min_table(pattern: &[u8], h_min: &mut [i16; LONGEST_PATTERN + 1])
     h_min[1] = h_min_from(pattern, 1, m - 1);
     // the last entry that was found by comparing
     let mut base = 1;
-    for k in 2..m + 1 {
+    // a shift as well as an index: enumerate, skip and rev together are no plainer
+    for k in 2..=m {
         // above h_min(base) + d, what agrees d below agrees k below
         let d = k - base;
         let low = h_min[base];
@@ -47,15 +50,15 @@ pub fn h_min_table(pattern: &[u8], h_min: &mut [i16; LONGEST_PATTERN + 1])
         if h - d as i16 > low {
             h_min[k] = h;
         } else {
-            let known = low as usize + d;
-            let from = if known < m { known } else { m - 1 };
+            let from = (low as usize + d).min(m - 1);
             h_min[k] = h_min_from(pattern, k, from);
             base = k;
         }
     }
 }
 
-// Entry h is k_min(h), for h from 0 to m - 1: k falls, so the least is stored last.
+// Entry h is k_min(h), for h from 0 to m - 1, and 0 where there is none, as the definition has it:
+// k falls, so the least is stored last.
 pub fn k_min_table(
     pattern: &[u8],
     h_min: &[i16; LONGEST_PATTERN + 1],
@@ -65,13 +68,12 @@ pub fn k_min_table(
     requires zeros { k_min.old ≡ replicate (longest_pattern + 1) 0 }
     ensures { KMinTable pattern.now k_min.new }
 {
-    let mut k = pattern.len();
-    while k > 0 {
+    // a shift as well as an index: enumerate, skip and rev together are no plainer
+    for k in (1..=pattern.len()).rev() {
         let h = h_min[k];
         if h - k as i16 >= 0 {
             k_min[h as usize] = k as u16;
         }
-        k -= 1;
     }
 }
 
@@ -85,14 +87,14 @@ pub fn r_min_table(
     requires size { length r_min.old ≡ longest_pattern + 1 }
     ensures { RMinTable pattern.now r_min.new }
 {
+    let m = pattern.len();
     // m is such an r
-    let mut least = pattern.len();
-    let mut r = least;
-    while r > 0 {
+    let mut least = m;
+    // a shift as well as an index: enumerate, skip and rev together are no plainer
+    for r in (1..=m).rev() {
         if h_min[r] - (r as i16) < 0 {
             least = r;
         }
-        r -= 1;
-        r_min[r] = least as u16;
+        r_min[r - 1] = least as u16;
     }
 }

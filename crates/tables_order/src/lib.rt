@@ -1,5 +1,5 @@
 // The order in which an alignment compares, in the caller's buffer, by h_min and k_min in tables of
-// 129 entries.
+// 129 entries. They stay arrays, passed each by itself: document 01's form.
 #![tactic(auto)]
 
 ghost use Rattle.std.specs.Prelude.{map, ◌≡◌, ◌+◌, ◌≤◌, pos, length};
@@ -28,7 +28,8 @@ fn write_second_group(
     let m = pattern.len();
     let last = m as i16 - 1;
     let mut next = 1;
-    for k in 1..m + 1 {
+    // a shift as well as an index: enumerate and skip are no plainer
+    for k in 1..=m {
         let h = h_min[k];
         if h < last && k_min[h as usize] == k as u16 {
             order[next] = h;
@@ -51,9 +52,10 @@ fn write_third_group(
     ensures { order.new ≡ from_entry begin (map pos (third_group pattern.now))
         order.old }
 {
+    let m = pattern.len();
     let mut next = begin;
-    for h in 0..pattern.len() - 1 {
-        if k_min[h] == 0 {
+    for (h, &k) in k_min[..m - 1].iter().enumerate() {
+        if k == 0 {
             order[next] = h as i16;
             next += 1;
         }
@@ -76,5 +78,6 @@ pub fn write_order(
     order[0] = m as i16 - 1;
     let begin = write_second_group(pattern, h_min, k_min, order);
     write_third_group(pattern, k_min, begin, order);
+    // -1, and no Option: C lends the buffer, and `stored_order` has it so
     order[m] = -1;
 }

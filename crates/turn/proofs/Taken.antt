@@ -8,12 +8,22 @@ use borrow.Author.Tests.{ltb-false, le-ltb}
 use Rattle.answers.proofs.Refusals.{done_none, none_done, limits_hold, limits_none}
 use Rattle.answers.specs.Refusals.{Refusal, job_refusals, WithinLimits, buffer_refusal}
 use Rattle.turn.specs.Turn.{way_refusal, turn_status}
+use Rattle.turn.specs.Ways.{way_number}
+use Rattle.turn.specs.declared.Way.{Way}
+use Rattle.turn.specs.declared.Way.TheVariants.{AsDrawn, Mirrored, Reversed, Both}
 
 pub record Turnable (way m q n p x : ℕ) : Type 0 where
   pub known : way ≤ 3
   pub limits : WithinLimits m q n
   pub pattern_room : m ≤ p
   pub text_room : n ≤ x
+
+-- the number of a way is at most 3
+pub way_known : {number : ℕ} (way : Way) → number ≡ way_number way → number ≤ 3
+way_known AsDrawn e = omega arith
+way_known Mirrored e = omega arith
+way_known Reversed e = omega arith
+way_known Both e = omega arith
 
 module _ (way m q n p x : ℕ) where
   abbrev refusals : List Refusal

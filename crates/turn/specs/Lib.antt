@@ -1,3 +1,4 @@
+pub mod Ways
 pub mod Turned
 pub mod Turn
 pub mod Promises

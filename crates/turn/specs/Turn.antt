@@ -19,6 +19,10 @@ turn_status way m q n p x = first_of (way_refusal way ∷ job_refusals m q n ++ 
 unfoldable pub turn_answer : (status way m q : ℕ) → TurnAnswer
 turn_answer s way m q = record { answer = status_only s; q = if_done s (turned_index way m q) 0 }
 
+-- what a refused call answers: its status, and the hold offset (hold place) 0
+abbrev pub refused_answer : (status : ℕ) → TurnAnswer
+refused_answer status = record { answer = status_only status; q = 0 }
+
 -- the bytes turned, in front of their buffer after a call of this status
 unfoldable pub turned_left : (status way : ℕ) → (bytes buffer : List ℕ) → List ℕ
 turned_left s way bytes buffer = if_done s (in_front (turned way bytes) buffer) buffer

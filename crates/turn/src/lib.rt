@@ -3,28 +3,84 @@
 
 ghost use Rattle.std.specs.Prelude.{◌≡◌, ◌<◌, ◌≤◌, length, take};
 ghost use Rattle.answers.specs.Buffers.{in_front};
+ghost use Rattle.answers.specs.Reasons.{number_of, status_of};
 ghost use Rattle.turn_mirror.specs.Mirrored.{MirrorTable};
-ghost use Rattle.turn.specs.Turn.{turn_status, TurnOutcome};
-ghost use Rattle.turn.specs.Turned.{turned_byte, turned, turned_index};
+ghost use Rattle.turn.specs.Turn.{turn_status, TurnOutcome, refused_answer};
+ghost use Rattle.turn.specs.Turned.{mirrors, reverses, turned_byte, turned, turned_index};
+ghost use Rattle.turn.specs.Ways.{way_number, WayRead, turn_read};
 
-use answers::Answer;
+use answers::{Answer, Reason};
 
 // What turning answers.
 #[repr(C)]
-#[derive(Drop)]
+#[derive(Clone, Copy, Debug, Default, PartialEq, Eq)]
 pub struct TurnAnswer {
     pub answer: Answer,
     // the turned hold offset (hold place)
     pub q: u32,
 }
 
+// What a refused call answers: the hold offset 0.
+impl From<Reason> for TurnAnswer {
+    ghost from_gives = { λ reason answer. answer ≡ refused_answer (number_of reason) };
+
+    fn from(reason: Reason) -> TurnAnswer {
+        TurnAnswer {
+            answer: Answer::from(reason),
+            q: 0,
+        }
+    }
+}
+
+// The ways of turning: C passes 0 to 3.
+#[derive(Clone, Copy, Debug, PartialEq, Eq)]
+pub enum Way {
+    AsDrawn = 0,
+    Mirrored = 1,
+    Reversed = 2,
+    Both = 3,
+}
+
+// The way of a number; 8 above 3.
+impl TryFrom<u32> for Way {
+    type Error = Reason;
+
+    ghost try_from_gives = { λ number way. WayRead number way };
+
+    fn try_from(number: u32) -> Result<Way, Reason> {
+        match number {
+            0 => Ok(Way::AsDrawn),
+            1 => Ok(Way::Mirrored),
+            2 => Ok(Way::Reversed),
+            3 => Ok(Way::Both),
+            _ => Err(Reason::Way),
+        }
+    }
+}
+
+impl Way {
+    // Whether it mirrors each byte (card).
+    pub fn mirrors(self) -> bool
+        ensures { result ≡ mirrors (way_number self) }
+    {
+        matches!(self, Way::Mirrored | Way::Both)
+    }
+
+    // Whether it reverses the order.
+    pub fn reverses(self) -> bool
+        ensures { result ≡ reverses (way_number self) }
+    {
+        matches!(self, Way::Reversed | Way::Both)
+    }
+}
+
 // Where turning moves an index of `len` entries: in the ways that reverse the order, to the same
 // one counted from the end.
-fn turned_index(way: u32, len: usize, index: usize) -> usize
+fn turned_index(way: Way, len: usize, index: usize) -> usize
     requires { index < len }
-    ensures { result ≡ turned_index way len index }
+    ensures { result ≡ turned_index (way_number way) len index }
 {
-    if (way == 2) | (way == 3) {
+    if way.reverses() {
         len - 1 - index
     } else {
         index
@@ -32,71 +88,69 @@ fn turned_index(way: u32, len: usize, index: usize) -> usize
 }
 
 // A byte turned: mirrored, by a table of mirrored bytes, in the ways that mirror.
-fn turned_byte(way: u32, byte: u8, table: &[u8; 256]) -> u8
+fn turned_byte(way: Way, byte: u8, table: &[u8; 256]) -> u8
     requires { MirrorTable table.now }
-    ensures { result ≡ turned_byte way byte }
+    ensures { result ≡ turned_byte (way_number way) byte }
 {
-    if (way == 1) | (way == 3) {
-        table[byte as usize]
+    if way.mirrors() {
+        table[usize::from(byte)]
     } else {
         byte
     }
 }
 
 // Copies what a way leaves as it is to the front of a buffer, and returns how many bytes that are:
-// in way 0 all whole blocks, in the others none.
-fn copy_unturned(way: u32, bytes: &[u8], out: &mut [u8]) -> usize
+// as drawn all, in the other ways none.
+fn copy_unturned(way: Way, bytes: &[u8], out: &mut [u8]) -> usize
     requires { length bytes.now ≤ length out.old }
     ensures inside { result ≤ length bytes.now }
-    ensures copied { out.new ≡ in_front (take result (turned way bytes.now))
+    ensures copied { out.new ≡ in_front (take result (turned (way_number way) bytes.now))
         out.old }
 {
-    if way != 0 {
-        return 0;
+    match way {
+        Way::AsDrawn => copy_blocks::copy_blocks(bytes, out),
+        _ => 0,
     }
-    copy_blocks::copy_blocks(bytes, out)
 }
 
 // Writes bytes turned to the front of a buffer, by a table of mirrored bytes.
-fn write_turned(way: u32, bytes: &[u8], table: &[u8; 256], out: &mut [u8])
+fn write_turned(way: Way, bytes: &[u8], table: &[u8; 256], out: &mut [u8])
     requires mirrored { MirrorTable table.now }
     requires room { length bytes.now ≤ length out.old }
-    ensures { out.new ≡ in_front (turned way bytes.now) out.old }
+    ensures { out.new ≡ in_front (turned (way_number way) bytes.now) out.old }
 {
     let len = bytes.len();
     let copied = copy_unturned(way, bytes, out);
-    for i in copied..len {
-        let byte = bytes[turned_index(way, len, i)];
-        out[i] = turned_byte(way, byte, table);
+    for (i, entry) in out[copied..len].iter_mut().enumerate() {
+        let byte = bytes[turned_index(way, len, copied + i)];
+        *entry = turned_byte(way, byte, table);
     }
 }
 
-// The status of turning, decided before anything is written.
-fn turn_status(
+// The way of its number in C, where a call that turns by it is done; decided before anything is
+// written.
+fn check_turn(
     way: u32,
     m: usize,
     hold_offset: u32,
     n: usize,
     turned_pattern_len: usize,
     turned_text_len: usize,
-) -> u32
-    ensures { result ≡ turn_status way m hold_offset n turned_pattern_len
-        turned_text_len }
+) -> Result<Way, Reason>
+    ensures status { status_of result ≡ turn_status way m hold_offset n
+        turned_pattern_len turned_text_len }
+    ensures read { turn_read way result }
 {
-    if 3 < way {
-        return 8;
-    }
-    let status = answers::job_status(m, hold_offset as usize, n);
-    if status != 0 {
-        return status;
-    }
+    let way = Way::try_from(way)?;
+    answers::check_job(m, hold_offset as usize, n)?;
     if (turned_pattern_len < m) | (turned_text_len < n) {
-        return 7;
+        return Err(Reason::ShortBuffer);
     }
-    0
+    Ok(way)
 }
 
-// Turns a job: its pattern (motif), its text (chain) and its hold offset (hold place).
+// Turns a job: its pattern (motif), its text (chain) and its hold offset (hold place). The way is
+// the number that C passes.
 pub fn turn(
     way: u32,
     hold_offset: u32,
@@ -110,7 +164,7 @@ pub fn turn(
         turned_text.old turned_text.new result }
 {
     let m = pattern.len();
-    let status = turn_status(
+    let checked = check_turn(
         way,
         m,
         hold_offset,
@@ -118,17 +172,15 @@ pub fn turn(
         turned_pattern.len(),
         turned_text.len(),
     );
-    if status != 0 {
-        return TurnAnswer {
-            answer: answers::status_only(status),
-            q: 0,
-        };
-    }
+    let way = match checked {
+        Ok(way) => way,
+        Err(reason) => return TurnAnswer::from(reason),
+    };
     let table = turn_mirror::mirrored_bytes();
     write_turned(way, pattern, &table, turned_pattern);
     write_turned(way, text, &table, turned_text);
     TurnAnswer {
-        answer: answers::status_only(0),
+        answer: Answer::default(),
         q: turned_index(way, m, hold_offset as usize) as u32,
     }
 }

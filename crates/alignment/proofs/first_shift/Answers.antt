@@ -1,15 +1,13 @@
 -- `alignment::first_shift` meets its contract: the byte that is read is the one shown at the last
 -- position. Assumes nothing.
-use Rattle.std.proofs.Common.{◌≡◌, ◌+◌, ◌-◌, length, sym, ◌∙◌, ap, arith}
-use Rattle.tables.specs.Sets.{byte}
-use Rattle.tables.specs.Tables.{Δ1}
-use Rattle.steps.proofs.Text.{shown_byte}
+use Rattle.std.proofs.Common.{arith}
+use Rattle.steps.proofs.Text.{span_few}
 use Rattle.alignment.proofs.first_shift.Goals as goal
 
-pub returns : goal.returns
-returns c =
-    let a = c.args in
-    let m = length a.pattern.now in
-    let last : a.b + m - 1 ≡ a.b + (m - 1) = omega arith in
-    let shows = ap (byte a.text.now) last ∙ sym (shown_byte a.text.now (a.b + (m - 1)) (omega arith)) in
-    c.shift_by.ensures ∙ ap (λ seen. Δ1 a.pattern.now seen a.s) shows
+pub overflow_add-b : goal.overflow_add-b
+overflow_add-b g c =
+    let job = c.args.job.now in
+    let w = job.pattern.now in
+    let t = job.text.now in
+    let taken = c.requires.taken in
+    omega (arith, g.met.R.Reading.within w t taken.some, span_few w t taken.some, taken)

@@ -28,20 +28,23 @@ repeat_shift-requires-clause-differs c =
 pub returns-then-agreed-eq0 : goal.returns-then-agreed-eq0
 returns-then-agreed-eq0 c =
     let a = c.args in
-    c.first_shift_around.ensures
-    ∙ sym (step_shift_first (shown a.text.now) a.pattern.now a.here.position a.here.shift a.here.repeat
-    (sym c.requires.compared.count ∙ c.if-agreed-eq0.true))
+    c.first_shift.ensures
+    ∙ sym (step_shift_first (shown a.job.now.text.now) a.job.now.pattern.now a.here.position
+    a.here.shift a.here.repeat (sym c.requires.compared.count ∙ c.if-agreed-eq0.true))
 
 -- or a later one
-pub offset_bounds-delta2-agreed : goal.offset_bounds-delta2-agreed
-offset_bounds-delta2-agreed c = omega (arith, agreed_small c.requires.ready.taken c.requires.compared)
+pub offset_bounds-job-agreed : goal.offset_bounds-job-agreed
+offset_bounds-job-agreed c = omega (arith, agreed_small c.requires.ready.taken c.requires.compared)
 
-pub bounds-delta2-agreed : goal.bounds-delta2-agreed
-bounds-delta2-agreed c =
+pub bounds-job-agreed : goal.bounds-job-agreed
+bounds-job-agreed c =
     let ready = c.requires.ready in
-    (order_entry ready.taken c.if-here.false ready.delta2_ready c.requires.compared (omega arith)).inside
+    (order_entry ready.taken c.if-here.false ready.delta2_ready c.requires.compared
+    (omega arith)).inside
 
 pub returns : goal.returns
 returns c =
     let ready = c.requires.ready in
-    (order_entry ready.taken c.if-here.false ready.delta2_ready c.requires.compared (omega arith)).value_there
+    c.from.ensures
+    ∙ (order_entry ready.taken c.if-here.false ready.delta2_ready c.requires.compared
+    (omega arith)).value_there

@@ -1,7 +1,8 @@
--- `convert::convert` meets its contract: a refused call leaves everything, and past the refusals the frames are written by what the search finds.
--- By the laws of what converting answers and leaves. Assumes nothing.
-use Rattle.std.proofs.Common.{◌≡◌, ℕ, sym, ◌∙◌, ◌||◌}
+-- `convert::convert` meets its contract: a refused call leaves everything, and past the refusals
+-- the frames are written by what the search finds. Assumes nothing.
+use Rattle.std.proofs.Common.{◌≡◌, ℕ, sym, ◌||◌}
 use Rattle.std.specs.Prelude.{ltb}
+use Rattle.answers.proofs.Reasons.{numbered}
 use Rattle.search.proofs.Searched.{search_fit}
 use Rattle.tables.specs.Buffers.{measured_status}
 use Rattle.tables.specs.declared.TableLengths.{TableLengths}
@@ -11,22 +12,24 @@ use Rattle.convert.proofs.convert.Goals as goal
 
 -- the conversion is taken
 fit :
-    {m q n found frames s : ℕ} {l l' : TableLengths} → s ≡ measured_status m q n l (ltb found n || ltb frames n) → l ≡ l' → s ≡ 0 →
+    {m q n found frames : ℕ} {l l' : TableLengths} →
+    0 ≡ measured_status m q n l (ltb found n || ltb frames n) → l ≡ l' →
     ConversionTaken m q n l' found frames
-fit measured e taken = conversion_taken (sym (status_is _ _ _ _ _ measured e) ∙ taken)
+fit measured e = conversion_taken (sym (status_is _ _ _ _ _ measured e))
 
-pub returns-then-status-ne0 : goal.returns-then-status-ne0
-returns-then-status-ne0 c =
-    rw (c.status_only.ensures, ← status_is _ _ _ _ _ c.status-status.ensures c.lengths-lengths.ensures) (refused _ c.if-status-ne0.true)
+pub returns-in-Err : goal.returns-in-Err
+returns-in-Err c =
+    rw (c.from.ensures, ← status_is _ _ _ _ _ c.in-Err.ensures c.lengths-lengths.ensures)
+    (refused _ (numbered _))
 
 pub search_within-searched-requires : goal.search_within-searched-requires
-search_within-searched-requires c = search_fit (search_taken (fit c.status-status.ensures c.lengths-lengths.ensures c.if-status-ne0.false))
+search_within-searched-requires c = search_fit (search_taken (fit c.in_default.ensures c.lengths-lengths.ensures))
 
 pub write_frames-requires : goal.write_frames-requires
 write_frames-requires c =
-    frames_ready (fit c.status-status.ensures c.lengths-lengths.ensures c.if-status-ne0.false) c.search_within-searched.ensures
+    frames_ready (fit c.in_default.ensures c.lengths-lengths.ensures) c.search_within-searched.ensures
 
 pub returns : goal.returns
 returns c =
-    rw (← status_is _ _ _ _ _ c.status-status.ensures c.lengths-lengths.ensures, c.if-status-ne0.false)
-    (done (fit c.status-status.ensures c.lengths-lengths.ensures c.if-status-ne0.false) c.search_within-searched.ensures c.write_frames.ensures)
+    rw (← status_is _ _ _ _ _ c.in_default.ensures c.lengths-lengths.ensures)
+    (done (fit c.in_default.ensures c.lengths-lengths.ensures) c.search_within-searched.ensures c.write_frames.ensures)

@@ -1,18 +1,12 @@
--- `copy_blocks::write_block` meets its contract. The loop's invariant: the block's bytes from i on are left to be written.
--- Assumes nothing.
-use Rattle.std.proofs.Common.{◌+◌, arith, add-zero, add_assoc, add-one, drop-cons, drop_of_length-le}
-use Rattle.answers.proofs.Partly.{none_written, one_more, all_written}
+-- `copy_blocks::write_block` meets its contract: the part of the buffer that is written is the
+-- block, and what is before and past it stays, as in `from_entry`. Assumes nothing.
+use Rattle.std.proofs.Common.{◌≡◌, refl, ◌+◌, ◌-◌, append_assoc, arith, length}
+use Rattle.answers.specs.Buffers.{from_entry}
 use Rattle.copy_blocks.proofs.write_block.Goals as goal
 
-pub loop-i-init : goal.loop-i-init
-loop-i-init c = rw add-zero (none_written _ _ _)
-
-pub loop-i-preserved : goal.loop-i-preserved
-loop-i-preserved c =
-    let due = rw (drop-cons c.args.block.now c.loop-i.i 0 (omega arith)) at c.loop-i.invariant in
-    rw (← add_assoc c.args.at c.loop-i.i 1) (rw (← add-one c.loop-i.i) at (one_more _ _ due (omega arith)))
-
 pub returns : goal.returns
+unfolding from_entry
 returns c =
-    let none = drop_of_length-le c.args.block.now {i = c.loop-i.i} (omega arith) in
-    (all_written _ _ (rw none at c.loop-i.invariant)).buffer
+    let n = length c.args.block.now in
+    let size : c.args.at + n - c.args.at ≡ n = omega arith in
+    rw (c.copy_from_slice.ensures.after, size, ← append_assoc) refl

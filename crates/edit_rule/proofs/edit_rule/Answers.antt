@@ -1,7 +1,8 @@
 -- `edit_rule::edit_rule` meets its contract: it writes past all its refusals, and the slot is
 -- inside the table. By the limits of an edit that is taken. Assumes nothing.
-use Rattle.std.proofs.Common.{List, ◌≡◌, ℕ, ◌+◌, ◌-◌, ◌≤◌, ◌<◌, length, length-set, sym, ◌∙◌, arith}
+use Rattle.std.proofs.Common.{List, ◌≡◌, ℕ, ◌+◌, ◌-◌, ◌≤◌, ◌<◌, length, length-set, sym, rules, ◌∙◌, arith}
 use Rattle.answers.proofs.Answered.{refused_only}
+use Rattle.answers.proofs.Reasons.{numbered}
 use Rattle.answers.specs.Answers.{if_done}
 use Rattle.rules.specs.Rules.{slot, table_size}
 use Rattle.edit_rule.proofs.Edited.{slot_put}
@@ -18,10 +19,9 @@ record Past (x : List ℕ) (number m q : ℕ) : Type 0 where
   room : slot (number - 1) + 2 + m ≤ length x
 
 past :
-    (x : List ℕ) (number m q : ℕ) {s : ℕ} → s ≡ edit_status x number m q → length x ≡ table_size → s ≡ 0 →
-    Past x number m q
-past x number m q e size z =
-    let taken : EditTaken x number m q = edit_taken x number m q size (sym e ∙ z) in
+    (x : List ℕ) (number m q : ℕ) → 0 ≡ edit_status x number m q → length x ≡ table_size → Past x number m q
+past x number m q e size =
+    let taken : EditTaken x number m q = edit_taken x number m q size (sym e) in
     record {
       some = omega arith;
       few = omega arith;
@@ -31,52 +31,40 @@ past x number m q e size z =
     }
 
 -- a refused edit leaves the table
-pub returns-then-status-ne0 : goal.returns-then-status-ne0
-returns-then-status-ne0 c =
-    let tested = c.edit_status-status.ensures.answer in
+pub returns-in-Err : goal.returns-in-Err
+returns-in-Err c =
+    let tested = c.in-Err.ensures.status in
     record {
-      answer = rw (← tested) c.status_only.ensures;
-      table_left = refused_only _ _ _ (rw tested at c.if-status-ne0.true);
+      answer = rw (← tested) c.from.ensures;
+      table_left = refused_only _ _ _ (rw tested at (numbered c.in-Err.reason));
     }
 
 pub overflow_sub-at : goal.overflow_sub-at
-overflow_sub-at c =
-    let e = c.edit_status-status.ensures in
-    (past _ _ _ _ e.answer e.size c.if-status-ne0.false).some
+overflow_sub-at c = let e = c.in_default.ensures in (past _ _ _ _ e.status e.size).some
 
 pub overflow_cast-rules : goal.overflow_cast-rules
-overflow_cast-rules c =
-    let e = c.edit_status-status.ensures in
-    omega (arith, past _ _ _ _ e.answer e.size c.if-status-ne0.false)
+overflow_cast-rules c = let e = c.in_default.ensures in omega (arith, past _ _ _ _ e.status e.size)
 
 pub bounds-rules-at : goal.bounds-rules-at
-bounds-rules-at c =
-    let e = c.edit_status-status.ensures in
-    omega (arith, past _ _ _ _ e.answer e.size c.if-status-ne0.false)
+bounds-rules-at c = let e = c.in_default.ensures in omega (arith, past _ _ _ _ e.status e.size)
 
 pub overflow_cast-rules-2 : goal.overflow_cast-rules-2
-overflow_cast-rules-2 c =
-    let e = c.edit_status-status.ensures in
-    omega (arith, past _ _ _ _ e.answer e.size c.if-status-ne0.false)
+overflow_cast-rules-2 c = let e = c.in_default.ensures in omega (arith, past _ _ _ _ e.status e.size)
 
 pub bounds-rules-at-2 : goal.bounds-rules-at-2
-bounds-rules-at-2 c =
-    let e = c.edit_status-status.ensures in
-    omega (arith, past _ _ _ _ e.answer e.size c.if-status-ne0.false)
+bounds-rules-at-2 c = let e = c.in_default.ensures in omega (arith, past _ _ _ _ e.status e.size)
 
 pub write_block-requires : goal.write_block-requires
-write_block-requires c =
-    let e = c.edit_status-status.ensures in
-    simp length-set (past _ _ _ _ e.answer e.size c.if-status-ne0.false).room
+write_block-requires c = let e = c.in_default.ensures in simp length-set (past _ _ _ _ e.status e.size).room
 
 -- one that is taken edits it
 pub returns : goal.returns
 unfolding if_done edited
 returns c =
-    let e = c.edit_status-status.ensures in
-    let h = past _ _ _ _ e.answer e.size c.if-status-ne0.false in
-    rw (sym e.answer ∙ c.if-status-ne0.false)
+    let e = c.in_default.ensures in
+    let h = past _ _ _ _ e.status e.size in
+    rw (sym e.status)
     record {
-      answer = c.status_only-2.ensures;
+      answer = search rules;
       table_left = c.write_block.ensures ∙ slot_put _ _ _ _ _ h.room;
     }

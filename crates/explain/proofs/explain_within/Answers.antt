@@ -10,4 +10,6 @@ pub explain_at-told-requires : goal.explain_at-told-requires
 explain_at-told-requires c = reach_ready c.write_tables-p.ensures.written (explain_fit c.requires) c.write_tables-p.ensures.period
 
 pub returns : goal.returns
-returns c = rw (c.explained.ensures, c.requires) (done c.write_tables-p.ensures.written c.explain_at-told.ensures)
+returns c =
+    rw (c.from.ensures, c.requires)
+    (done c.write_tables-p.ensures.written c.explain_at-told.ensures)

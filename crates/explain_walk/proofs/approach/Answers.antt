@@ -3,7 +3,7 @@
 -- is left before b. Assumes nothing.
 use Rattle.std.proofs.Common.{arith, refl, ◌∙◌, ap}
 use Rattle.steps.proofs.Text.{span_ends}
-use Rattle.alignment.proofs.Laying.{agreed_few, further, after_agreeing, after_differing}
+use Rattle.alignment.proofs.Laying.{further, after_agreeing}
 use Rattle.alignment.specs.declared.Laid.{Laid}
 use Rattle.explain_walk.proofs.Reaching.{reaching_first, reaching_over}
 use Rattle.explain_walk.proofs.approach.Goals as goal
@@ -26,13 +26,6 @@ pass_occurrences-here-requires-clause-after_occurrence c =
 pub pass_occurrences-here-requires-clause-reaching : goal.pass_occurrences-here-requires-clause-reaching
 pass_occurrences-here-requires-clause-reaching c =
     reaching_over c.requires.rows.taken c.args.b c.requires.inside c.loop-here.invariant c.laid_after-next.ensures refl c.loop-here-test.true
-
-pub pass_differing-here-requires-clause-by_order : goal.pass_differing-here-requires-clause-by_order
-pass_differing-here-requires-clause-by_order c =
-    let ended = c.agreeing-agreed.ensures in
-    ap (λ (y : Laid). y.repeat)
-    (c.laid_after-next.ensures
-    ∙ after_differing c.requires.rows.taken ended refl (omega (arith, agreed_few c.requires.rows.taken ended)))
 
 pub pass_differing-here-requires-clause-reaching : goal.pass_differing-here-requires-clause-reaching
 pass_differing-here-requires-clause-reaching c =

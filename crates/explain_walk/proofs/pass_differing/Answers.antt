@@ -1,35 +1,40 @@
 -- `explain_walk::pass_differing` meets its contract. The loop keeps `Reaching`, and each turn is
 -- the law of an alignment whose first comparison differs. The measure is what is left before b.
 -- Assumes nothing.
-use Rattle.std.proofs.Common.{◌+◌, arith, false, length}
+use Rattle.std.proofs.Common.{arith}
 use Rattle.steps.proofs.Text.{span_ends}
-use Rattle.alignment.specs.Laid.{laid_at}
 use Rattle.explain_walk.proofs.Passing.{passed_differing}
-use Rattle.explain_walk.specs.Reach.{Reaching}
 use Rattle.explain_walk.proofs.pass_differing.Goals as goal
 
-pub overflow_add-position : goal.overflow_add-position
-overflow_add-position c = omega (arith, span_ends _ _ c.requires.taken.some c.args.b c.requires.inside)
+pub overflow_add-next : goal.overflow_add-next
+overflow_add-next c = omega (arith, span_ends _ _ c.requires.taken.some c.args.b c.requires.inside)
 
-pub bounds-text-position : goal.bounds-text-position
-bounds-text-position c = omega (arith, span_ends _ _ c.requires.taken.some c.args.b c.requires.inside)
+pub bounds-text-next : goal.bounds-text-next
+bounds-text-next c = omega (arith, span_ends _ _ c.requires.taken.some c.args.b c.requires.inside)
 
 pub first_shift-shift-requires-clause-inside : goal.first_shift-shift-requires-clause-inside
 first_shift-shift-requires-clause-inside c = omega (arith, span_ends _ _ c.requires.taken.some c.args.b c.requires.inside)
 
--- the alignment is passed over
-passed :
-    (c : goal.After-first_shift-shift) → let k = c.first_shift-shift.result in
-    Reaching c.args.pattern.now c.args.text.now c.args.b (laid_at (c.loop-position.position + k) k false) (length c.args.pattern.now)
-passed c =
-    passed_differing c.requires.taken c.args.b c.requires.inside c.loop-position.invariant.reaching c.loop-position-test.true
-    c.if-text-position.true c.first_shift-shift.ensures
+pub after-next-requires : goal.after-next-requires
+after-next-requires c =
+    let r = c.requires in
+    let passed =
+    passed_differing r.taken c.args.b r.inside c.loop-next.invariant.reaching c.loop-next-test.true
+    c.if-text-next.true c.first_shift-shift.ensures in
+    omega (arith, passed.low, span_ends _ _ r.taken.some c.args.b r.inside, r.taken)
 
-pub overflow_add-position-in-loop-position-2 : goal.overflow_add-position-in-loop-position-2
-overflow_add-position-in-loop-position-2 c = omega (arith, (passed c).low)
+pub loop-next-smaller : goal.loop-next-smaller
+loop-next-smaller c =
+    let r = c.requires in
+    let passed =
+    passed_differing r.taken c.args.b r.inside c.loop-next.invariant.reaching c.loop-next-test.true
+    c.if-text-next.true c.first_shift-shift.ensures in
+    rw c.after-next.ensures (omega (arith, passed.low, passed.right.positive))
 
-pub loop-position-smaller : goal.loop-position-smaller
-loop-position-smaller c = omega (arith, (passed c).low, (passed c).right.positive)
-
-pub loop-position-preserved : goal.loop-position-preserved
-loop-position-preserved c = record { reaching = passed c; forward = omega arith }
+pub loop-next-preserved : goal.loop-next-preserved
+loop-next-preserved c =
+    let r = c.requires in
+    let passed =
+    passed_differing r.taken c.args.b r.inside c.loop-next.invariant.reaching c.loop-next-test.true
+    c.if-text-next.true c.first_shift-shift.ensures in
+    rw c.after-next.ensures (record { reaching = passed; forward = omega arith })

@@ -1,15 +1,14 @@
-use Rattle.std.proofs.Common.{◌-◌, ◌≤◌, length, false}
-use Rattle.alignment.specs.Laid.{laid_at}
+use Rattle.std.proofs.Common.{◌-◌, ◌≤◌, length}
 use Rattle.explain_walk.specs.Reach.{Reaching}
 use Rattle.explain_walk.proofs.pass_differing.Given as goal
 
--- the walk stands at an alignment by the order that spoils nothing of b, at or after the first one
-abbrev pub invariant-loop-position : goal.invariant-loop-position
-invariant-loop-position l = record {
-  reaching : Reaching l.pattern l.text l.b (laid_at l.position l.shift false) (length l.pattern);
-  forward : l.initial.position ≤ l.position;
+-- the walk stands at an alignment that spoils nothing of b, at or after the first one
+abbrev pub invariant-loop-next : goal.invariant-loop-next
+invariant-loop-next l = record {
+  reaching : Reaching l.job.pattern.now l.job.text.now l.b l.next (length l.job.pattern.now);
+  forward : l.initial.next.position ≤ l.next.position;
 }
 
 -- what is left before b
-abbrev pub decreases-loop-position : goal.decreases-loop-position
-decreases-loop-position l = l.b - l.position
+abbrev pub decreases-loop-next : goal.decreases-loop-next
+decreases-loop-next l = l.b - l.next.position

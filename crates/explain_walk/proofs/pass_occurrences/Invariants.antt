@@ -6,7 +6,7 @@ use Rattle.explain_walk.proofs.pass_occurrences.Given as goal
 -- one
 abbrev pub invariant-loop-next : goal.invariant-loop-next
 invariant-loop-next l = record {
-  reaching : Reaching l.pattern l.text l.b l.next (length l.pattern);
+  reaching : Reaching l.job.pattern.now l.job.text.now l.b l.next (length l.job.pattern.now);
   same_row : l.next.repeat ≡ l.repeat;
   forward : l.initial.next.position ≤ l.next.position;
 }

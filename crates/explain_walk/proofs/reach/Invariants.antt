@@ -4,7 +4,7 @@ use Rattle.explain_walk.proofs.reach.Given as goal
 
 -- the walk stands at an alignment, and those before it spoil b first at `spoilt`
 abbrev pub invariant-loop-spoilt : goal.invariant-loop-spoilt
-invariant-loop-spoilt l = Reaching l.pattern l.text l.b l.here l.spoilt
+invariant-loop-spoilt l = Reaching l.job.pattern.now l.job.text.now l.b l.here l.spoilt
 
 -- what is left before b
 abbrev pub decreases-loop-spoilt : goal.decreases-loop-spoilt

@@ -16,11 +16,11 @@ end : (x q n i : ℕ) (found frames : List ℕ) → length found ≤ i → with_
 unfolding with_holds holds
 end x q n i found frames h = rw (drop_of_length-le found h)
 
-pub loop-i-preserved : goal.loop-i-preserved
-loop-i-preserved c =
-    rw c.wrapped.ensures
-    (turn c.args.hold c.args.hold_offset c.args.n c.loop-i.i c.args.found.now c.loop-i.frames (omega arith) ∙ c.loop-i.invariant)
+pub loop-b-preserved : goal.loop-b-preserved
+loop-b-preserved c =
+    rw (c.wrapped.ensures, c.from.ensures)
+    (turn c.args.hold c.args.hold_offset c.args.n c.loop-b.b-index c.args.found.now c.loop-b.frames (omega arith) ∙ c.loop-b.invariant)
 
 pub returns : goal.returns
 returns c =
-    sym (end c.args.hold c.args.hold_offset c.args.n c.loop-i.i c.args.found.now c.loop-i.frames (omega arith)) ∙ c.loop-i.invariant
+    sym (end c.args.hold c.args.hold_offset c.args.n c.loop-b.b-index c.args.found.now c.loop-b.frames (omega arith)) ∙ c.loop-b.invariant

@@ -10,7 +10,7 @@ loop-at-init c = none_written 0 _ _
 pub loop-at-preserved : goal.loop-at-preserved
 loop-at-preserved c =
     let due = rw (drop-cons c.args.text.now c.loop-at.at 0 (omega arith)) at c.loop-at.invariant in
-    rw add-one (rw add-one at (one_more 0 _ due (omega arith)))
+    rw (add-one, c.from.ensures) (rw add-one at (one_more 0 _ due (omega arith)))
 
 pub returns : goal.returns
 returns c =

@@ -1,8 +1,7 @@
--- `hex_lines::write_digits` meets its contract. The loop's invariant: the digits passed, the
--- number's last ones, stand where they belong. The measure is how many digits are left.
--- Assumes nothing.
+-- `hex_lines::write_digits` meets its contract: each turn puts the digit before those passed, and the
+-- digits passed at the end are all. Assumes nothing.
 use Rattle.std.proofs.Common.{List, [], ◌∷◌, ◌≡◌, refl, ℕ, suc, ◌+◌, ◌-◌, ◌/◌, ◌%◌, ◌^◌, ◌<◌, arith}
-use Rattle.std.proofs.Math.ListN.{set, length-set}
+use Rattle.std.proofs.Math.ListN.{set}
 use Rattle.std.proofs.Math.Seq.{sets, set_comm}
 use Rattle.answers.proofs.Fronts.{from_entry_sets}
 use Rattle.hex_digits.proofs.Numbers.{length_digits}
@@ -26,24 +25,23 @@ turn o out number at left done rest d r e h q =
     let next : at + left ≡ suc (at + (left - 1)) = omega arith in
     rw (e, q, r, digit_before, next) (set_below (digits done number) o (suc (at + (left - 1))) (at + (left - 1)) _ (omega arith))
 
-pub loop-left-init : goal.loop-left-init
+pub loop-i-init : goal.loop-i-init
 unfolding digits
-loop-left-init c = (0, omega arith, omega arith, refl, refl)
+loop-i-init c = (0, omega arith, omega arith, refl)
 
-pub loop-left-preserved : goal.loop-left-preserved
-loop-left-preserved c =
-    let (done, _, places, _, stores) = c.loop-left.invariant in (
+pub loop-i-preserved : goal.loop-i-preserved
+loop-i-preserved c =
+    let (done, _, places, stores) = c.loop-i.invariant in (
       suc done,
       omega arith,
       rw (places, places_above done c.args.number),
-      simp length-set (omega arith),
-      turn _ _ c.args.number c.args.at c.loop-left.left done c.loop-left.rest _ places stores (omega arith) c.digit_of.ensures,
+      turn _ _ c.args.number c.args.at c.loop-i.i done c.loop-i.rest _ places stores (omega arith) c.digit_of.ensures,
     )
 
 pub returns-clause-written : goal.returns-clause-written
 returns-clause-written c =
-    let (done, _, _, _, stores) = c.loop-left.invariant in
+    let (done, _, _, stores) = c.loop-i.invariant in
     let all : done ≡ c.args.count = omega arith in
-    let none : c.args.at + c.loop-left.left ≡ c.args.at = omega arith in
+    let none : c.args.at + c.loop-i.i ≡ c.args.at = omega arith in
     let number = digits c.args.count c.args.number in
     rw (rw (all, none) at stores) (from_entry_sets c.args.at number c.args.out.now (rw length_digits (omega arith)))

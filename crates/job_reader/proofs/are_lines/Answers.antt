@@ -1,44 +1,42 @@
--- `job_reader::are_lines` meets its contract. The loop's invariant: all lines are good just if each
--- line passed was counted and the rest are. Assumes nothing.
-use Rattle.std.proofs.Common.{true, false, ◌&&◌, List, ◌≡◌, sym, ◌∙◌, ℕ, ◌+◌, ◌*◌, ◌-◌, ◌≤◌, ◌<◌, arith, add-one}
-use mathlib.Core.Bool.{and-false, and-true}
-use borrow.Author.Tests.{ne_eqb}
-use lib.Dec.{eqb, eqb-suc-suc}
-use Rattle.job.specs.Job.{good_line, good_lines}
-use Rattle.job_reader.proofs.Reading.{lines_from, line_bytes}
+-- `job_reader::are_lines` meets its contract: all lines are good just where as many are good as there
+-- are (`lines_counted`). Assumes nothing.
+use Rattle.std.proofs.Common.{List, ℕ, ◌≡◌, ◌+◌, ◌*◌, ◌-◌, ◌/◌, ◌≤◌, ◌<◌, ◌∙◌, arith, length, get_or, take, drop, rules, tests, length-drop, get_or-drop}
+use lib.Seq.{length-take-le}
+use mir.Val.{bool_byte}
+use Rattle.std.proofs.lemmas.Iterator.{YieldsList-from_slice, YieldsList-from_map}
+use Rattle.std.proofs.lemmas.Iterator.Consumers.{sum_by_from_yields_List, fits_by_from_yields_list}
+use Rattle.std.proofs.lemmas.List.{get_or-take}
+use Rattle.job_reader.proofs.Lines.{three_good, lines_counted}
 use Rattle.job_reader.proofs.are_lines.Goals as goal
-use Rattle.job_reader.proofs.are_lines.Goals.{then-is_line, else-is_line}
 
--- a turn at the i-th line, where it is good and where it is not
-module _ (file : List ℕ) (count from i good : ℕ) (h : i < count) (few : good ≤ i)
-    (e : good_lines count from file ≡ eqb good i && good_lines (count - i) (from + 3 * i) file) where
-  counted : good_line 2 (from + 3 * i) file ≡ true
-      → good_lines count from file ≡ eqb (good + 1) (i + 1) && good_lines (count - (i + 1)) (from + 3 * (i + 1)) file
-  counted l = e ∙ rw (lines_from count i from file h, l, add-one good, add-one i, eqb-suc-suc)
+-- the part of the file has three bytes for each line
+module _ (from count : ℕ) (file : List ℕ) (inside : from + 3 * count ≤ length file) where
+  size : from + 3 * count - from ≡ 3 * count
+  size = omega arith
 
-  passed : good_line 2 (from + 3 * i) file ≡ false
-      → good_lines count from file ≡ eqb good (i + 1) && good_lines (count - (i + 1)) (from + 3 * (i + 1)) file
-  passed l = e ∙ rw (lines_from count i from file h, l, and-false, ne_eqb good (i + 1) (omega arith))
+  lines : length (take (from + 3 * count - from) (drop from file)) / 3 ≡ count
+  lines = omega (arith, length-take-le (from + 3 * count - from) (drop from file) (omega (arith, length-drop from file)))
 
-pub loop-i-preserved : goal.loop-i-preserved
-loop-i-preserved c =
-    let i = c.loop-i.i in
-    let line = line_bytes (c.args.from + 3 * i) c.args.file.now ∙ sym c.is_line.ensures in
-    let inv = c.loop-i.invariant in
-    elim c.if-is_line.branch [
-      | then-is_line w ↦ record {
-        few = omega arith;
-        so_far = rw w.good-is (counted _ _ _ i _ (omega arith) inv.few inv.so_far (line ∙ w.if-is_line.true));
-      }
-      | else-is_line w ↦ record {
-        few = omega arith;
-        so_far = rw w.good-is (passed _ _ _ i _ (omega arith) inv.few inv.so_far (line ∙ w.if-is_line.false));
-      }
-    ]
+  same : (i : ℕ) → i < 3 * count → get_or (take (from + 3 * count - from) (drop from file)) i 0 ≡ get_or file (from + i) 0
+  same i h = get_or-take _ _ i 0 (omega arith) ∙ get_or-drop from file i 0
+
+pub sum-good-requires-clause-fits : goal.sum-good-requires-clause-fits
+sum-good-requires-clause-fits c =
+    let count = c.args.count in
+    let file = c.args.file.now in
+    let (few, _) = lines_counted count c.args.from _ file (same c.args.from count file c.requires.inside) in
+    fits_by_from_yields_list (λ line. bool_byte (three_good line)) _ c.map.result _
+    (YieldsList-from_map _ _ (YieldsList-from_slice c.as_chunks.result.0.now cc)
+    c.map.ensures.closure (λ x r q k. search (rules, tests)))
+    (rw (c.as_chunks.ensures.front, lines c.args.from count file c.requires.inside) (omega (arith, few, c.requires.few)))
 
 pub returns : goal.returns
-unfolding good_lines
 returns c =
-    let all : c.loop-i.i ≡ c.args.count = omega arith in
-    let none : c.args.count - c.loop-i.i ≡ 0 = omega arith in
-    sym (c.loop-i.invariant.so_far ∙ rw (none, all, and-true))
+    let count = c.args.count in
+    let file = c.args.file.now in
+    let (_, all) = lines_counted count c.args.from _ file (same c.args.from count file c.requires.inside) in
+    let sum =
+    sum_by_from_yields_List (λ line. bool_byte (three_good line)) _ c.map.result _ c.sum-good.ensures.ran
+    (YieldsList-from_map _ _ (YieldsList-from_slice c.as_chunks.result.0.now cc)
+    c.map.ensures.closure (λ x r q k. search (rules, tests))) in
+    rw (sum, c.as_chunks.ensures.front, lines c.args.from count file c.requires.inside) all

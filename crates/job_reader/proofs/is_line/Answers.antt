@@ -1,10 +1,11 @@
 -- `job_reader::is_line` meets its contract: two digits and the line end.
 -- Assumes nothing.
-use Rattle.hex_digits.proofs.Parse.{value_read, refused_bad}
+use Rattle.std.proofs.Common.{sym, ◌∙◌}
+use Rattle.hex_digits.proofs.Parse.{some_just}
 use Rattle.job_reader.proofs.is_line.Goals as goal
 
-pub returns-in-Value : goal.returns-in-Value
-returns-in-Value c = rw (value_read _ _ _ c.pair.ensures _ c.in-Value.is).0
+pub returns-then-is_some : goal.returns-then-is_some
+returns-then-is_some c = rw (sym (some_just _ c.pair.ensures) ∙ sym c.is_some.ensures ∙ c.if-is_some.true)
 
-pub returns-in-Refused : goal.returns-in-Refused
-returns-in-Refused c = rw (refused_bad _ _ _ c.pair.ensures c.in-Refused.is)
+pub returns-else-is_some : goal.returns-else-is_some
+returns-else-is_some c = rw (c.if-is_some.false, sym (some_just _ c.pair.ensures) ∙ sym c.is_some.ensures ∙ c.if-is_some.false)

@@ -1,5 +1,5 @@
--- `job_reader::read_lines` meets its contract. The loop's invariant: the bytes of the lines from the
--- i-th on are left to be written. Assumes nothing.
+-- `job_reader::read_lines` meets its contract: each line of two digits gives its byte, and those of all
+-- lines fill the buffer. Assumes nothing.
 use Rattle.std.proofs.Common.{List, ◌≡◌, ◌∙◌, ℕ, ◌+◌, ◌-◌, ◌≤◌, arith, add-zero, length}
 use native.Mathlib.Nat.{sub-zero}
 use Rattle.answers.proofs.Fronts.{in_front_whole}
@@ -28,13 +28,13 @@ value_of-requires-in-loop-i c =
     let digits = line_digits _ _ _ c.requires.good c.loop-i.i (omega arith) in
     digit_from _ (low_digit _ _ digits)
 
-pub overflow_mul-out : goal.overflow_mul-out
-overflow_mul-out c =
+pub overflow_mul-byte : goal.overflow_mul-byte
+overflow_mul-byte c =
     let digits = line_digits _ _ _ c.requires.good c.loop-i.i (omega arith) in
     omega (arith, value_below _ (high_digit _ _ digits))
 
-pub overflow_add-out : goal.overflow_add-out
-overflow_add-out c =
+pub overflow_add-byte : goal.overflow_add-byte
+overflow_add-byte c =
     let digits = line_digits _ _ _ c.requires.good c.loop-i.i (omega arith) in
     omega (arith, value_below _ (high_digit _ _ digits), value_below _ (low_digit _ _ digits))
 

@@ -1,9 +1,10 @@
+-- `job_reader::read_lines` meets its contract: the bytes of the lines from the i-th on are left to be
+-- written. Assumes nothing.
 use Rattle.std.proofs.Common.{◌+◌, ◌*◌, ◌-◌, length}
 use Rattle.answers.proofs.Partly.{PartlyWritten}
 use Rattle.job.specs.Job.{bytes_in}
 use Rattle.job_reader.proofs.read_lines.Given as goal
 
--- the bytes of the lines from the i-th on are left to be written
 abbrev pub invariant-loop-i : goal.invariant-loop-i
 invariant-loop-i l =
     let n = length l.initial.out in

@@ -1,53 +1,42 @@
--- `ones::ones_of` meets its contract. The loop's invariant: the sum and the ones of the bytes that are left are those of the text.
--- No sum is above the ones of the text, so none overflows. Assumes nothing.
-use Rattle.std.proofs.Common.{◌≡◌, ◌∙◌, ap, ℕ, ◌+◌, ◌*◌, ◌-◌, ◌/◌, List, arith, length, take, drop, length-drop}
-use Rattle.std.proofs.Math.Seq.{take_all}
+-- `ones::ones_of` meets its contract: the sums over the words and over the rest are the ones of
+-- the text, as `words_counted` says. No sum is above these, so none overflows. Assumes nothing.
+use Rattle.std.proofs.Common.{◌≡◌, ◌+◌, ◌/◌, arith, length, rules, tests}
+use Rattle.std.proofs.lemmas.Iterator.{YieldsList-from_slice, YieldsList-from_map}
+use Rattle.std.proofs.lemmas.Iterator.Consumers.{sum_by_from_yields_List, fits_by_from_yields_list}
 use Rattle.std.specs.Int.Count.{ones}
-use native.Mathlib.Nat.{le_of_eq}
-use Rattle.answers.proofs.Bytes.{each_byte, bytes_part}
-use Rattle.answers.specs.Bytes.{Bytes}
-use Rattle.ones.proofs.Sums.{ones_part, ones_of_few}
-use Rattle.ones.proofs.Words.{word_counted}
+use Rattle.answers.proofs.Bytes.{each_byte}
+use Rattle.ones.proofs.Sums.{ones_of_few}
+use Rattle.ones.proofs.Words.{words_counted}
 use Rattle.ones.specs.Ones.{ones_of}
-use Rattle.ones.specs.Promises.{WordCounted}
 use Rattle.ones.specs.Words.{word_of}
 use Rattle.ones.proofs.ones_of.Goals as goal
 
--- the ones from word k on: the word's own, and those after it
-word_counted_next :
-    (t : List ℕ) → Bytes t → (k word : ℕ) → word ≡ word_of (take (8 * k + 8 - 8 * k) (drop (8 * k) t)) →
-    ones_of (drop (8 * k) t) ≡ ones word + ones_of (drop (8 * (k + 1)) t)
-unfolding WordCounted
-word_counted_next t h k word e =
-    let eight : 8 * k + 8 - 8 * k ≡ 8 = omega arith in
-    let on : 8 * (k + 1) ≡ 8 * k + 8 = omega arith in
-    rw (e, eight, on, word_counted (take 8 (drop (8 * k) t)) (bytes_part t h (8 * k) 8)) (ones_part t (8 * k) 8)
-
--- past the last word: the ones of the bytes there, with the sum those of the text
-rest :
-    (t : List ℕ) (ones k left : ℕ) → k ≡ length t / 8 → ones + ones_of (drop (8 * k) t) ≡ ones_of t →
-    left ≡ ones_of (take (length t - 8 * (length t / 8)) (drop (8 * (length t / 8)) t)) →
-    ones + left ≡ ones_of t
-rest t ones k left all so_far e =
-    let past = 8 * (length t / 8) in
-    let end = e ∙ ap ones_of (take_all (length t - past) (drop past t) (le_of_eq (length-drop past t))) in
-    omega (arith, end, so_far, ap (λ i. ones_of (drop (8 * i) t)) all)
-
-pub overflow_add-ones : goal.overflow_add-ones
-overflow_add-ones c =
+pub sum-ones-requires-clause-fits : goal.sum-ones-requires-clause-fits
+sum-ones-requires-clause-fits c =
     let text = c.args.text.now in
     let bytes = each_byte text (λ i l. (c.type_inv.text i).fits) in
-    omega (arith, word_counted_next text bytes c.loop-k.k c.word_of.result c.word_of.ensures, ones_of_few text bytes)
+    fits_by_from_yields_list (λ word. ones (word_of word)) _ c.map.result _
+    (YieldsList-from_map _ _ (YieldsList-from_slice c.as_chunks.result.0.now cc)
+    c.map.ensures.closure (λ x r q k. search (rules, tests)))
+    (rw c.as_chunks.ensures.front
+    (omega (arith, words_counted (length text / 8) text bytes, ones_of_few text bytes)))
 
-pub loop-k-preserved : goal.loop-k-preserved
-loop-k-preserved c =
+-- the two sums together
+both : (c : goal.After-ones_by_bytes) → c.sum-ones.result + c.ones_by_bytes.result ≡ ones_of c.args.text.now
+both c =
     let text = c.args.text.now in
     let bytes = each_byte text (λ i l. (c.type_inv.text i).fits) in
-    omega (arith, word_counted_next text bytes c.loop-k.k c.word_of.result c.word_of.ensures)
+    let sum =
+    sum_by_from_yields_List (λ word. ones (word_of word)) _ c.map.result _ c.sum-ones.ensures.ran
+    (YieldsList-from_map _ _ (YieldsList-from_slice c.as_chunks.result.0.now cc)
+    c.map.ensures.closure (λ x r q k. search (rules, tests))) in
+    rw (sum, c.as_chunks.ensures.front, c.ones_by_bytes.ensures, c.as_chunks.ensures.back)
+    (words_counted (length text / 8) text bytes)
 
 pub overflow_add-result : goal.overflow_add-result
 overflow_add-result c =
     let text = c.args.text.now in
-    let bytes = each_byte text (λ i l. (c.type_inv.text i).fits) in
-    let sum = rest text c.loop-k.ones c.loop-k.k c.ones_by_bytes.result (omega arith) c.loop-k.invariant c.ones_by_bytes.ensures in
-    omega (arith, sum, ones_of_few text bytes)
+    omega (arith, both c, ones_of_few text (each_byte text (λ i l. (c.type_inv.text i).fits)))
+
+pub returns : goal.returns
+returns c = both c

@@ -1,6 +1,7 @@
+-- `report_lines::write_lines` meets its contract: the lines of the numbers passed are written
+-- (`SoFar`). Assumes nothing.
 use Rattle.hex_lines.proofs.Writing.{SoFar}
 use Rattle.report_lines.proofs.write_lines.Given as goal
 
--- the lines of the numbers passed are written
-abbrev pub invariant-loop-i : goal.invariant-loop-i
-invariant-loop-i l = SoFar 4 l.at l.numbers l.initial.out l.i l.out l.next
+abbrev pub invariant-loop-number : goal.invariant-loop-number
+invariant-loop-number l = SoFar 4 l.at l.numbers l.initial.out l.number-index l.out l.next

@@ -1,11 +1,13 @@
 -- `restore::restore` meets its contract: past the refusals the frames are put back into the first
 -- entries of the buffer. Assumes nothing.
-use Rattle.std.proofs.Common.{List, ℕ, zero, suc, ◌≡◌, refl, sym, ◌∙◌}
+use Rattle.std.proofs.Common.{List, ℕ, zero, suc, ◌≡◌, refl, sym}
+use Rattle.answers.proofs.Reasons.{numbered}
 use Rattle.answers.specs.Answers.{status_only, if_done}
 use Rattle.answers.specs.Buffers.{in_front}
 use Rattle.answers.specs.declared.Answer.{Answer}
 use Rattle.restore_conversions.proofs.Restored.{all_frames}
 use Rattle.restore_conversions.specs.Restored.{restored}
+use Rattle.answers.proofs.Answered.{zeros}
 use Rattle.restore.proofs.Taken.{restorable}
 use Rattle.restore.proofs.restore.Goals as goal
 use Rattle.restore.specs.Restore.{restored_left, RestoreOutcomeOf}
@@ -23,26 +25,21 @@ done :
 unfolding if_done restored_left
 done q w gs text text' r e f = record { answer = e; text_left = f }
 
-pub returns-then-status-ne0 : goal.returns-then-status-ne0
-returns-then-status-ne0 c =
-    rw (← c.restore_status-status.ensures) (refused _ _ _ _ _ _ c.if-status-ne0.true c.status_only.ensures)
+pub returns-in-Err : goal.returns-in-Err
+returns-in-Err c = rw (← c.in-Err.ensures) (refused _ _ _ _ _ _ (numbered _) c.from.ensures)
 
 -- past the refusals the job is within the limits, the buffer has room and the frames are a
 -- conversion
 pub bounds-pattern-hold_offset : goal.bounds-pattern-hold_offset
-bounds-pattern-hold_offset c =
-    (restorable _ _ _ _ (sym c.restore_status-status.ensures ∙ c.if-status-ne0.false)).limits.hold_offset
+bounds-pattern-hold_offset c = (restorable _ _ _ _ (sym c.in_default.ensures)).limits.hold_offset
 
 pub write_restored-requires-clause-frames : goal.write_restored-requires-clause-frames
-write_restored-requires-clause-frames c =
-    all_frames _ _ _ (restorable _ _ _ _ (sym c.restore_status-status.ensures ∙ c.if-status-ne0.false)).conversion
+write_restored-requires-clause-frames c = all_frames _ _ _ (restorable _ _ _ _ (sym c.in_default.ensures)).conversion
 
 pub write_restored-requires-clause-room : goal.write_restored-requires-clause-room
-write_restored-requires-clause-room c =
-    (restorable _ _ _ _ (sym c.restore_status-status.ensures ∙ c.if-status-ne0.false)).room
+write_restored-requires-clause-room c = (restorable _ _ _ _ (sym c.in_default.ensures)).room
 
 pub returns : goal.returns
 unfolding restored
 returns c =
-    rw (← c.restore_status-status.ensures, c.if-status-ne0.false)
-    (done _ _ _ _ _ _ c.status_only-2.ensures c.write_restored.ensures)
+    rw (← c.in_default.ensures) (done _ _ _ _ _ _ (zeros c.default.ensures) c.write_restored.ensures)

@@ -14,14 +14,14 @@ next :
 next test n all at whole inside e =
     and_assoc all (test at) _ ∙ ap (λ (rest : Bool). all && rest) (sym (run_on test n at inside)) ∙ e
 
-pub loop-at-preserved : goal.loop-at-preserved
-loop-at-preserved c =
+pub loop-frame-preserved : goal.loop-frame-preserved
+loop-frame-preserved c =
     let args = c.args in
     let passes = λ (i : ℕ). is_frame args.count (get_or args.frames.now i 0) in
     rw (c.is_frame-all.ensures, add-one)
-    (next passes (length args.frames.now) c.loop-at.all c.loop-at.at _ (omega arith) c.loop-at.invariant)
+    (next passes (length args.frames.now) c.loop-frame.all c.loop-frame.frame-index _ (omega arith) c.loop-frame.invariant)
 
 pub returns : goal.returns
 returns c =
-    let now = c.loop-at in
-    sym (and-true _) ∙ ap (λ (rest : Bool). now.all && rest) (sym (run_over _ _ now.at (omega arith))) ∙ now.invariant
+    let now = c.loop-frame in
+    sym (and-true _) ∙ ap (λ (rest : Bool). now.all && rest) (sym (run_over _ _ now.frame-index (omega arith))) ∙ now.invariant

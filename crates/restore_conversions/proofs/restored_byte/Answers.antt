@@ -12,8 +12,8 @@ move held g frame one other = omega (arith, one_low _ (rw one at frame), other)
 pub overflow_cast-result : goal.overflow_cast-result
 overflow_cast-result c = record { fits = move _ _ c.requires c.if-held-eq1.true c.if-frame-eq-HOLD.false }
 
-pub bounds-held-frame : goal.bounds-held-frame
-bounds-held-frame c = (held_at_number c.args.held.now _ c.requires (omega arith)).0
+pub bounds-held-from : goal.bounds-held-from
+bounds-held-from c = omega (arith, (held_at_number c.args.held.now c.args.frame c.requires (omega arith)).0, c.from.ensures)
 
 pub returns-then-frame-eq-HOLD : goal.returns-then-frame-eq-HOLD
 returns-then-frame-eq-HOLD c = rw c.if-frame-eq-HOLD.true (sym (hold_restored _ 0 (omega arith)))
@@ -25,4 +25,4 @@ pub returns-then-frame-lt-HOLD : goal.returns-then-frame-lt-HOLD
 returns-then-frame-lt-HOLD c = sym (move_restored _ _ (omega arith))
 
 pub returns-else-frame-lt-HOLD : goal.returns-else-frame-lt-HOLD
-returns-else-frame-lt-HOLD c = sym (held_at_number c.args.held.now _ c.requires (omega arith)).1
+returns-else-frame-lt-HOLD c = rw c.from.ensures (sym (held_at_number c.args.held.now _ c.requires (omega arith)).1)

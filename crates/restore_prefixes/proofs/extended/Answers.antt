@@ -1,7 +1,7 @@
 -- `restore_prefixes::extended` meets its contract. The loop's invariant: the prefix of length k
 -- ends before the byte and is not the whole pattern, and no longer one is extended by the byte. The
 -- measure is k: a link is shorter. Assumes nothing.
-use Rattle.std.proofs.Common.{List, ℕ, ◌≡◌, ◌≤◌, ◌<◌, length, get_or, refl, sym, ◌∙◌, add-one, arith}
+use Rattle.std.proofs.Common.{List, ℕ, ◌≡◌, ◌≤◌, ◌<◌, length, get_or, sym, ◌∙◌, add-one, arith}
 use Rattle.tables.specs.Sets.{byte}
 use Rattle.restore_prefixes.proofs.Candidates.{link_shorter, Candidate, candidate_first, candidate_extends, candidate_none, candidate_next}
 use Rattle.restore_prefixes.proofs.extended.Goals as goal
@@ -32,7 +32,7 @@ loop-k-init c =
     let pre = c.requires in
     elim c.if-k-pattern.branch [
       | then-k-pattern w ↦
-          let r = begun _ _ _ _ _ pre.some pre.within pre.linked w.if-k-pattern.true w.k-is in
+          let r = begun _ _ _ _ _ pre.some pre.within pre.linked w.if-k-pattern.true (w.k-is ∙ w.from-k.ensures) in
           record { candidate = r.candidate; short = omega (arith, r.shorter) }
       | else-k-pattern w ↦
           rw w.k-is record { candidate = candidate_first _ _ _ pre.within; short = omega (arith, pre.within, w.if-k-pattern.false) }
@@ -49,9 +49,9 @@ returns-then-k-eq0 c = sym (candidate_none _ _ _ _ c.loop-k.invariant.candidate 
 -- in the loop the link of a prefix that is not extended is followed
 pub loop-k-smaller : goal.loop-k-smaller
 loop-k-smaller c =
-    (next_candidate _ _ _ _ _ _ c.requires.linked c.loop-k.invariant.candidate (omega (arith, c.if-k-eq0.false)) (λ (l, same). c.if-pattern-k.false same) refl).shorter
+    (next_candidate _ _ _ _ _ _ c.requires.linked c.loop-k.invariant.candidate (omega (arith, c.if-k-eq0.false)) (λ (l, same). c.if-pattern-k.false same) c.from-k-in-loop-k.ensures).shorter
 
 pub loop-k-preserved : goal.loop-k-preserved
 loop-k-preserved c =
-    let next = next_candidate _ _ _ _ _ _ c.requires.linked c.loop-k.invariant.candidate (omega (arith, c.if-k-eq0.false)) (λ (l, same). c.if-pattern-k.false same) refl in
+    let next = next_candidate _ _ _ _ _ _ c.requires.linked c.loop-k.invariant.candidate (omega (arith, c.if-k-eq0.false)) (λ (l, same). c.if-pattern-k.false same) c.from-k-in-loop-k.ensures in
     record { candidate = next.candidate; short = omega (arith, next.shorter, c.loop-k.invariant.short) }

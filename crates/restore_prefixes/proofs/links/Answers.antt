@@ -1,7 +1,13 @@
 -- `restore_prefixes::links` meets its contract. The loop's invariant: the links of the prefixes up
 -- to length k stand in the table, and `prefix` is the last of them. Assumes nothing.
-use Rattle.std.proofs.Common.{List, ℕ, zero, suc, ◌≡◌, ◌≤◌, ◌<◌, length, get_or, set, ⊎_elim, refl, sym, ◌∙◌, ap, arith}
-use Rattle.std.proofs.Common.{add-one, eq-or-lt_of_le, le_trans, length-set, get_or-set_same, get_or-set_other}
+use Rattle.std.proofs.Common.{List, ℕ, zero, suc, ◌≡◌, ◌+◌, ◌≤◌, ◌<◌, length, get_or, set, ⊎_elim, refl, sym, ◌∙◌, ap, arith}
+use Rattle.std.proofs.Common.{add-one, eq-or-lt_of_le, le_trans, length-set, get_or-set_same, get_or-set_other, length-drop, get_or-drop, drop, of_calls, rules}
+use Rattle.std.specs.List.{enumerate_from}
+use Rattle.std.proofs.lemmas.List.{length_push, get_or_default}
+use Rattle.std.proofs.lemmas.List.FromFn.{length-enumerate_from, get_or-enumerate_from}
+use Rattle.std.proofs.lemmas.Iterator.{YieldsList-from_slice}
+use Rattle.std.proofs.lemmas.Iterator.Consumers.{YieldsList-from_enumerate, YieldsList-turn}
+use Rattle.std.proofs.lemmas.Iterator.Adapters.{YieldsList-from_skip}
 use Rattle.tables.specs.Sets.{byte}
 use Rattle.restore_prefixes.proofs.Candidates.{link_shorter, fewer_links}
 use Rattle.restore_prefixes.proofs.Walk.{extended_within, links_right}
@@ -44,19 +50,49 @@ next_stands w table k longer stands inside is =
           (eq-or-lt_of_le l);
     }
 
+-- the turn after so many goes over the next byte behind the first one
+record Turn (w : List ℕ) (seen k c : ℕ) : Type 0 where
+  inside : seen + 1 < length w
+  place : k ≡ seen + 1
+  read : c ≡ byte w (seen + 1)
+
+turn :
+    (w : List ℕ) (seen k c d e : ℕ) → let rest = drop 1 (enumerate_from 0 w) in
+    (seen < length rest) × ((k, c) ≡ get_or rest seen (d, e)) → Turn w seen k c
+turn w seen k c d e (l, at) =
+    let all = enumerate_from 0 w in
+    let inside : 1 + seen < length w = omega (arith, length-drop 1 all, length-enumerate_from 0 w) in
+    let onward : 1 + seen ≡ seen + 1 = omega arith in
+    let is =
+    at ∙ get_or_default (drop 1 all) seen (d, e) (0, 0) l ∙ get_or-drop 1 all seen (0, 0) ∙ get_or-enumerate_from 0 w (1 + seen) (0, 0) inside in
+    record {
+      inside = omega arith;
+      place = omega (arith, ap (λ (p : ℕ × ℕ). p.0) is);
+      read = ap (λ (p : ℕ × ℕ). p.1) is ∙ ap (byte w) onward;
+    }
+
 pub loop-k-init : goal.loop-k-init
-loop-k-init c =
-    record { some = omega arith; size = refl; few = omega arith; stands = first _ _ (omega arith) refl refl; here = first_here _ }
+loop-k-init c = record {
+  goes = search (rules, of_calls);
+  ends = search (rules, of_calls);
+  size = refl;
+  few = omega arith;
+  stands = first _ _ (omega arith) refl refl;
+  here = first_here _;
+}
 
 pub extended-prefix-requires-clause-within : goal.extended-prefix-requires-clause-within
 extended-prefix-requires-clause-within c =
-    let now = c.loop-k.invariant in
-    omega (arith, now.here, link_shorter c.args.pattern.now c.loop-k.k now.some)
+    let all = YieldsList-from_enumerate (YieldsList-from_slice c.args.pattern.now (cc)) (cc) in
+    let next = YieldsList-turn (YieldsList-from_skip 1 all (cc)) c.loop-k.yielded _ c.loop-k.yielded_by in
+    let t = turn _ _ _ _ _ _ (next _ _ _ c.in-Some.is c.next.ensures.steps) in
+    omega (arith, c.loop-k.invariant.here, link_shorter c.args.pattern.now (length c.loop-k.yielded + 1) (omega arith), t.inside)
 
 pub extended-prefix-requires-clause-linked : goal.extended-prefix-requires-clause-linked
 extended-prefix-requires-clause-linked c =
     let now = c.loop-k.invariant in
-    fewer_links now.stands (omega (arith, now.here, link_shorter c.args.pattern.now c.loop-k.k now.some))
+    fewer_links now.stands
+    (omega (arith, now.here, link_shorter c.args.pattern.now (length c.loop-k.yielded + 1) (omega arith)))
 
 -- the next one is no longer than the pattern
 pub overflow_cast-links : goal.overflow_cast-links
@@ -66,12 +102,19 @@ overflow_cast-links c =
 
 pub loop-k-preserved : goal.loop-k-preserved
 loop-k-preserved c =
+    let w = c.args.pattern.now in
     let now = c.loop-k.invariant in
-    let here = c.extended-prefix.ensures ∙ next_here _ c.loop-k.k _ now.some (omega arith) now.here in
+    let n = length c.loop-k.yielded + 1 in
+    let all = YieldsList-from_enumerate (YieldsList-from_slice c.args.pattern.now (cc)) (cc) in
+    let next = YieldsList-turn (YieldsList-from_skip 1 all (cc)) c.loop-k.yielded _ c.loop-k.yielded_by in
+    let t = turn _ _ _ _ _ _ (next _ _ _ c.in-Some.is c.next.ensures.steps) in
+    let grown = rw t.read at c.extended-prefix.ensures in
+    let here = grown ∙ next_here w n _ (omega arith) t.inside now.here in
     record {
-      some = omega arith;
+      goes = search (rules, of_calls);
+      ends = search (rules, of_calls);
       size = length-set _ _ _ ∙ now.size;
-      few = omega arith;
-      stands = rw add-one (next_stands _ _ c.loop-k.k _ now.stands (omega arith) here);
-      here = rw add-one here;
+      few = rw length_push (omega (arith, t.inside, c.requires));
+      stands = rw (length_push, t.place, add-one) (next_stands _ _ n _ now.stands (omega (arith, t.inside, now.size, c.requires)) here);
+      here = rw (length_push, add-one) here;
     }

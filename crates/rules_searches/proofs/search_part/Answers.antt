@@ -4,4 +4,4 @@ use Rattle.rules_searches.proofs.Parts.{searched_part}
 use Rattle.rules_searches.proofs.search_part.Goals as goal
 
 pub returns : goal.returns
-returns c = searched_part _ _ _ _ _ _ _ c.search_within.ensures
+returns c = searched_part _ _ _ _ _ c.search_within.ensures

@@ -5,7 +5,8 @@ use Rattle.rules_status.proofs.Lengths.{summed_on, summed_all}
 use Rattle.rules_status.proofs.all_bytes.Goals as goal
 
 pub loop-i-preserved : goal.loop-i-preserved
-loop-i-preserved c = rw (add-one, c.length_of-sum.ensures) (summed_on _ c.requires c.loop-i.invariant (omega arith))
+loop-i-preserved c =
+    rw (add-one, c.length-sum.ensures) (summed_on _ c.count-i-end.ensures.taken c.loop-i.invariant (omega arith))
 
 pub returns-clause-sum : goal.returns-clause-sum
-returns-clause-sum c = summed_all _ c.requires c.loop-i.invariant (omega arith)
+returns-clause-sum c = summed_all _ c.count-i-end.ensures.taken c.loop-i.invariant (omega arith)

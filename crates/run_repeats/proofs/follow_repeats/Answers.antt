@@ -1,7 +1,7 @@
 -- `run_repeats::follow_repeats` meets its contract. The loop over the repeats keeps `Moved`, the
 -- loop over the comparisons of one `Repeating`, and each turn is one law of these. The measures are
 -- what is left of the text and of the row. Assumes nothing.
-use Rattle.std.proofs.Common.{true, false, [], ◌∷◌, ◌≡◌, ◌≢◌, ◌+◌, ◌-◌, ◌≤◌, ◌<◌, ℕ, List, length, refl, sym, ◌∙◌, arith}
+use Rattle.std.proofs.Common.{true, false, [], ◌∷◌, ◌≡◌, ◌≢◌, ◌+◌, ◌-◌, ◌≤◌, ◌<◌, ℕ, List, length, sym, ◌∙◌, arith}
 use Rattle.tables.specs.Sets.{byte}
 use Rattle.steps.proofs.Text.{span_few}
 use Rattle.alignment.specs.Laid.{laid_at, ComparedSo, alignment}
@@ -28,10 +28,10 @@ module _
 -- where they have ended
 module _ (c : Joined-pattern-at) where
   abbrev w : List ℕ
-  w = c.args.pattern.now
+  w = c.args.job.now.pattern.now
 
   abbrev t : List ℕ
-  t = c.args.text.now
+  t = c.args.job.now.text.now
 
   abbrev p : ℕ
   p = c.args.p
@@ -42,15 +42,15 @@ module _ (c : Joined-pattern-at) where
   abbrev b : ℕ
   b = run.laid.position
 
-  abbrev ready : RepeatsReady w t c.args.delta1.now c.args.delta3.now p
+  abbrev ready : RepeatsReady w t c.args.job.now.delta1.now c.args.job.now.delta3.now p
   ready = c.requires.ready
 
   ended : ComparedSo w t (laid_at b p true) c.if-pattern-at.agreed × (c.if-pattern-at.agreed ≤ p)
   ended =
       elim c.if-pattern-at.branch [
-        | then-pattern-at x ↦ one_differs ready c.loop-b.invariant c.if-text-b.false x.agreed-is x.if-pattern-at.true
+        | then-pattern-at x ↦ one_differs ready c.loop-pattern.invariant c.if-text-b.false x.agreed-is x.if-pattern-at.true
         | else-pattern-at+then-i-p x ↦
-            all_agree ready c.loop-b.invariant c.if-text-b.false x.agreed-is x.if-pattern-at.false x.if-i-p.true
+            all_agree ready c.loop-pattern.invariant c.if-text-b.false x.agreed-is x.if-pattern-at.false x.if-i-p.true
       ]
 
   -- the repeat, after a shift by the period
@@ -85,24 +85,28 @@ repeats-init c = record {
 pub overflow_add-b : goal.overflow_add-b
 overflow_add-b c =
     let taken = c.requires.ready.taken in
-    omega (arith, c.repeats.invariant.moved.stretch.standing.inside, span_few c.args.pattern.now c.args.text.now taken.some)
+    omega (arith, c.repeats.invariant.moved.stretch.standing.inside, span_few c.args.job.now.pattern.now c.args.job.now.text.now taken.some)
 
-pub loop-b-preserved : goal.loop-b-preserved
-loop-b-preserved c =
+pub loop-pattern-preserved : goal.loop-pattern-preserved
+loop-pattern-preserved c =
     let ready = c.requires.ready in
-    repeating_more ready.taken c.loop-b.invariant c.if-text-b.false c.if-pattern-at.false (λ e. c.if-i-p.false (e ∙ sym ready.period_is))
+    repeating_more ready.taken c.loop-pattern.invariant c.if-text-b.false c.if-pattern-at.false (λ e. c.if-i-p.false (e ∙ sym ready.period_is))
 
 pub repeat_shift-s-requires-clause-compared : goal.repeat_shift-s-requires-clause-compared
 repeat_shift-s-requires-clause-compared c = (ended (goal.at.repeat_shift-s-requires-clause-compared c).Joined-pattern-at).0
 
-pub overflow_add-result : goal.overflow_add-result
-overflow_add-result c =
-    let next = moved (goal.at.overflow_add-result c).Joined-pattern-at c.if-agreed-p.true c.repeat_shift-s.ensures in
-    omega (arith, next.stretch.standing.inside, span_few c.args.pattern.now c.args.text.now c.requires.ready.taken.some)
+pub after-requires : goal.after-requires
+after-requires c =
+    let taken = c.requires.ready.taken in
+    let far = span_few c.args.job.now.pattern.now c.args.job.now.text.now taken.some in
+    let next =
+    moved (goal.at.after-requires c).Joined-pattern-at c.if-agreed-p.true c.repeat_shift-s.ensures in
+    omega (arith, next.stretch.standing.inside, taken.few, taken.text)
 
 pub returns-then-agreed-p-clause-moved : goal.returns-then-agreed-p-clause-moved
 returns-then-agreed-p-clause-moved c =
-    moved (goal.at.returns-then-agreed-p-clause-moved c).Joined-pattern-at c.if-agreed-p.true c.repeat_shift-s.ensures
+    rw c.after.ensures
+    (moved (goal.at.returns-then-agreed-p-clause-moved c).Joined-pattern-at c.if-agreed-p.true c.repeat_shift-s.ensures)
 
 pub bounds-found-occurrences : goal.bounds-found-occurrences
 bounds-found-occurrences c =
@@ -117,8 +121,12 @@ bounds-found-occurrences c =
 pub repeats-preserved : goal.repeats-preserved
 repeats-preserved c =
     let d = (goal.at.repeats-preserved c).Joined-pattern-at in
+    let next = c.after-in-repeats.ensures in
     record {
-      moved = moved_listed c.requires.ready.taken c.requires.room (so_far d) (occurring d c.if-agreed-p.false);
-      shift = refl;
-      repeat = refl;
+      moved =
+          rw next
+          (moved_listed c.requires.ready.taken c.requires.room (so_far d)
+          (occurring d c.if-agreed-p.false));
+      shift = rw next;
+      repeat = rw next;
     }

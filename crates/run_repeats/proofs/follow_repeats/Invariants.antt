@@ -1,15 +1,17 @@
+-- What the loops of `run_repeats::follow_repeats` keep, and their measures: `Moved` over the
+-- repeats, `Repeating` over the comparisons of one. Assumes nothing.
 use Rattle.std.proofs.Common.{true, ◌≡◌, ◌+◌, ◌-◌, length}
 use Rattle.run_state.specs.Progress.{Moved}
 use Rattle.run_repeats.proofs.Repeating.{Repeating}
 use Rattle.run_repeats.proofs.follow_repeats.Given as goal
 
 -- the comparisons of the repeat before this one agreed
-abbrev pub invariant-loop-b : goal.invariant-loop-b
-invariant-loop-b l = Repeating l.pattern l.text l.b l.i
+abbrev pub invariant-loop-pattern : goal.invariant-loop-pattern
+invariant-loop-pattern l = Repeating l.pattern l.text l.b l.i
 
 -- what is left of the row
-abbrev pub decreases-loop-b : goal.decreases-loop-b
-decreases-loop-b l = l.p - l.i
+abbrev pub decreases-loop-pattern : goal.decreases-loop-pattern
+decreases-loop-pattern l = l.p - l.i
 
 -- the steps have gone on from where they began, and a repeat comes next, after a shift by the
 -- period

@@ -30,12 +30,12 @@ module _
 pub overflow_add-b : goal.overflow_add-b
 overflow_add-b c =
     let stands = c.loop-b.invariant.standing in
-    omega (arith, stands.inside, span_few c.args.pattern.now c.args.text.now c.requires.taken.some)
+    omega (arith, stands.inside, span_few c.args.job.now.pattern.now c.args.job.now.text.now c.requires.taken.some)
 
 pub overflow_add-b-in-loop-b-2 : goal.overflow_add-b-in-loop-b-2
 overflow_add-b-in-loop-b-2 c =
     let next = turn c.requires.taken _ c.requires.followed c.loop-b.invariant c.loop-b-test.true c.if-text-b.true c.first_shift-s.ensures in
-    omega (arith, next.standing.inside, span_few c.args.pattern.now c.args.text.now c.requires.taken.some)
+    omega (arith, next.standing.inside, span_few c.args.job.now.pattern.now c.args.job.now.text.now c.requires.taken.some)
 
 pub loop-b-smaller : goal.loop-b-smaller
 loop-b-smaller c =

@@ -1,3 +1,5 @@
+-- What the loop of `run_state::pass_differing` keeps, and its measure: the steps so far are a
+-- `Stretch` that lists nothing. Assumes nothing.
 use Rattle.std.proofs.Common.{[], ◌+◌, ◌-◌, length}
 use Rattle.alignment.specs.Laid.{laid_at}
 use Rattle.run_state.specs.Progress.{at, Stretch}

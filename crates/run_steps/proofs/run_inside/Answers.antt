@@ -13,40 +13,40 @@ alignments-init c =
     let taken = c.requires.shifts.tables.taken in
     record { moved = moved_none taken _ _ (first_standing taken); followed = λ l. refl }
 
-pub loop-b-init : goal.loop-b-init
-loop-b-init c = comparing_first _ c.requires.shifts.tables.taken c.requires.order_ready c.pass_differing-run.ensures
+pub loop-pattern-init : goal.loop-pattern-init
+loop-pattern-init c = comparing_first _ c.requires.shifts.tables.taken c.requires.order_ready c.pass_differing-run.ensures
 
 pub overflow_add-b : goal.overflow_add-b
 overflow_add-b c =
     let taken = c.requires.shifts.tables.taken in
     let stands = c.pass_differing-run.ensures.stretch.standing in
-    omega (arith, stands.inside, span_few c.args.pattern.now c.args.text.now taken.some, taken.text, taken.few)
+    omega (arith, stands.inside, span_few c.args.job.now.pattern.now c.args.job.now.text.now taken.some, taken.text, taken.few)
 
 pub bounds-order-i : goal.bounds-order-i
-bounds-order-i c = in_buffer _ c.requires.shifts.tables.taken c.requires.order_ready c.loop-b.invariant
+bounds-order-i c = in_buffer _ c.requires.shifts.tables.taken c.requires.order_ready c.loop-pattern.invariant
 
 -- an entry that is a position is inside the pattern, and so is its place in the order
 pub bounds-pattern-at : goal.bounds-pattern-at
 bounds-pattern-at c =
-    in_pattern c.args.order.now c.requires.shifts.tables.taken c.requires.order_ready c.loop-b.invariant c.if-text-b.false c.if-h-lt0.false
+    in_pattern c.args.job.now.order.now c.requires.shifts.tables.taken c.requires.order_ready c.loop-pattern.invariant c.if-text-b.false c.if-h-lt0.false
 
 pub bounds-text-b : goal.bounds-text-b
 bounds-text-b c =
     omega (
       arith,
-      in_pattern c.args.order.now c.requires.shifts.tables.taken c.requires.order_ready c.loop-b.invariant c.if-text-b.false c.if-h-lt0.false,
+      in_pattern c.args.job.now.order.now c.requires.shifts.tables.taken c.requires.order_ready c.loop-pattern.invariant c.if-text-b.false c.if-h-lt0.false,
     )
 
-pub loop-b-smaller : goal.loop-b-smaller
-loop-b-smaller c =
+pub loop-pattern-smaller : goal.loop-pattern-smaller
+loop-pattern-smaller c =
     omega (
       arith,
-      in_order c.args.order.now c.requires.shifts.tables.taken c.requires.order_ready c.loop-b.invariant c.if-text-b.false c.if-h-lt0.false,
+      in_order c.args.job.now.order.now c.requires.shifts.tables.taken c.requires.order_ready c.loop-pattern.invariant c.if-text-b.false c.if-h-lt0.false,
     )
 
-pub loop-b-preserved : goal.loop-b-preserved
-loop-b-preserved c =
-    comparing_more c.args.order.now c.requires.shifts.tables.taken c.requires.order_ready c.loop-b.invariant c.if-text-b.false c.if-h-lt0.false
+pub loop-pattern-preserved : goal.loop-pattern-preserved
+loop-pattern-preserved c =
+    comparing_more c.args.job.now.order.now c.requires.shifts.tables.taken c.requires.order_ready c.loop-pattern.invariant c.if-text-b.false c.if-h-lt0.false
     c.if-pattern-at.false
 
 -- however the comparisons end, so many of them agree
@@ -57,10 +57,10 @@ move_on-run-requires-clause-compared c =
     elim c.if-h-lt0.branch [
       | then-h-lt0 x ↦
           rw x.agreed-is
-          (comparing_all c.args.order.now taken c.requires.order_ready c.loop-b.invariant c.if-text-b.false by_order x.if-h-lt0.true)
+          (comparing_all c.args.job.now.order.now taken c.requires.order_ready c.loop-pattern.invariant c.if-text-b.false by_order x.if-h-lt0.true)
       | else-h-lt0+then-pattern-at x ↦
           rw x.agreed-is
-          (comparing_stop c.args.order.now taken c.requires.order_ready c.loop-b.invariant c.if-text-b.false x.if-h-lt0.false by_order
+          (comparing_stop c.args.job.now.order.now taken c.requires.order_ready c.loop-pattern.invariant c.if-text-b.false x.if-h-lt0.false by_order
           x.if-pattern-at.true)
     ]
 

@@ -1,3 +1,5 @@
+-- What the loops of `run_steps::run_inside` keep, and their measures: `Moved` over the alignments,
+-- `Comparing` over the comparisons of one. Assumes nothing.
 use Rattle.std.proofs.Common.{◌+◌, ◌-◌, length}
 use Rattle.alignment.specs.Laid.{laid_first}
 use Rattle.run_state.specs.Progress.{at, Followed, Moved}
@@ -5,12 +7,12 @@ use Rattle.run_steps.proofs.Comparing.{Comparing}
 use Rattle.run_steps.proofs.run_inside.Given as goal
 
 -- the comparisons before this one agreed, the first among them
-abbrev pub invariant-loop-b : goal.invariant-loop-b
-invariant-loop-b l = Comparing l.pattern l.text l.run.laid l.i
+abbrev pub invariant-loop-pattern : goal.invariant-loop-pattern
+invariant-loop-pattern l = Comparing l.pattern l.text l.run.laid l.i
 
 -- what is left of the pattern
-abbrev pub decreases-loop-b : goal.decreases-loop-b
-decreases-loop-b l = length l.pattern - l.i
+abbrev pub decreases-loop-pattern : goal.decreases-loop-pattern
+decreases-loop-pattern l = length l.pattern - l.i
 
 -- the steps have gone on from where a search begins, and the repeats there have been followed
 abbrev pub invariant-alignments : goal.invariant-alignments

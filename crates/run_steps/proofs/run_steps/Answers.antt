@@ -17,13 +17,13 @@ pub overflow_cast-result-2 : goal.overflow_cast-result-2
 overflow_cast-result-2 c =
     let taken = c.requires.shifts.tables.taken in
     let stands = c.run_wrapping-run.ensures.moved.stretch.standing in
-    omega (arith, stands.few, stands.inside, taken.text, taken.few, span_few c.args.pattern.now c.args.text.now taken.some)
+    omega (arith, stands.few, stands.inside, taken.text, taken.few, span_few c.args.job.now.pattern.now c.args.job.now.text.now taken.some)
 
 pub returns : goal.returns
 returns c =
     let shifts = c.requires.shifts in
     let taken = shifts.tables.taken in
-    let far = span_few c.args.pattern.now c.args.text.now taken.some in
+    let far = span_few c.args.job.now.pattern.now c.args.job.now.text.now taken.some in
     let over =
     moved_all taken (moved_then taken shifts.room c.run_inside-seam.ensures c.run_wrapping-run.ensures.moved)
     (omega (arith, c.run_wrapping-run.ensures.past)) in

@@ -35,30 +35,30 @@ in_pattern w repeat {i} some l e = omega (arith, row_below w repeat some i l)
 
 -- where the comparisons have ended
 module _ (c : Joined-i-count) where
-  abbrev taken : Taken c.args.pattern.now c.args.text.now
+  abbrev taken : Taken c.args.job.now.pattern.now c.args.job.now.text.now
   taken = c.requires.ready.shifts.tables.taken
 
   -- the alignment is shown: the row is not empty, so that one was made
-  is_shown : c.alignments.run.laid.position < length c.args.text.now
+  is_shown : c.alignments.run.laid.position < length c.args.job.now.text.now
   is_shown =
       elim c.if-i-count.branch [
         | then-i-count x ↦
             c.loop-i.invariant.shown
-            (omega (arith, x.if-i-count.true, c.row_length-count.ensures, row_some c.args.pattern.now c.alignments.run.laid.repeat taken.some))
+            (omega (arith, x.if-i-count.true, c.row_length-count.ensures, row_some c.args.job.now.pattern.now c.alignments.run.laid.repeat taken.some))
         | else-i-count+else-text-b+then-pattern-at x ↦ omega (arith, x.if-text-b.false, taken.some)
       ]
 
   -- and so many of them agree
-  ended : ComparedSo c.args.pattern.now c.args.text.now c.alignments.run.laid c.if-i-count.agreed
+  ended : ComparedSo c.args.job.now.pattern.now c.args.job.now.text.now c.alignments.run.laid c.if-i-count.agreed
   ended =
       let known = c.loop-i.invariant.along in
       record {
-        inside = span_reaches c.args.pattern.now c.args.text.now taken.some _ is_shown;
+        inside = span_reaches c.args.job.now.pattern.now c.args.job.now.text.now taken.some _ is_shown;
         count =
             elim c.if-i-count.branch [
               | then-i-count x ↦ x.agreed-is ∙ along_all _ _ _ _ known (x.if-i-count.true ∙ c.row_length-count.ensures)
               | else-i-count+else-text-b+then-pattern-at x ↦
-                  let in_row : c.loop-i.i < length (row c.args.pattern.now c.alignments.run.laid.repeat) =
+                  let in_row : c.loop-i.i < length (row c.args.job.now.pattern.now c.alignments.run.laid.repeat) =
                   omega (arith, x.if-i-count.false, known.within, c.row_length-count.ensures) in
                   x.agreed-is
                   ∙ along_stop _ _ _ _ known in_row x.row_entry-at.ensures (λ same. x.if-pattern-at.true (same ∙ sym x.byte_at.ensures))
@@ -68,7 +68,7 @@ module _ (c : Joined-i-count) where
 pub bounds-delta2-pattern : goal.bounds-delta2-pattern
 bounds-delta2-pattern c =
     let tables = c.requires.ready.shifts.tables in
-    (period_read c.args.pattern.now c.args.delta2.now tables.taken.some tables.delta2_ready).inside
+    (period_read _ _ tables.taken.some tables.delta2_ready).inside
 
 pub alignments-init : goal.alignments-init
 alignments-init c = moved_none c.requires.ready.shifts.tables.taken c.args.begin c.args.found.now c.requires.standing
@@ -76,11 +76,11 @@ alignments-init c = moved_none c.requires.ready.shifts.tables.taken c.args.begin
 pub row_length-count-requires-clause-period : goal.row_length-count-requires-clause-period
 row_length-count-requires-clause-period c =
     let tables = c.requires.ready.shifts.tables in
-    (period_read c.args.pattern.now c.args.delta2.now tables.taken.some tables.delta2_ready).value_there
+    c.from-p.ensures ∙ (period_read _ _ tables.taken.some tables.delta2_ready).value_there
 
 pub bounds-pattern-at : goal.bounds-pattern-at
 bounds-pattern-at c =
-    in_pattern c.args.pattern.now c.alignments.run.laid.repeat c.requires.ready.shifts.tables.taken.some
+    in_pattern c.args.job.now.pattern.now c.alignments.run.laid.repeat c.requires.ready.shifts.tables.taken.some
     (omega (arith, c.loop-i.invariant.along.within, c.row_length-count.ensures))
     c.row_entry-at.ensures
 
@@ -89,7 +89,7 @@ overflow_add-b c =
     let taken = c.requires.ready.shifts.tables.taken in
     omega (
       arith,
-      in_pattern c.args.pattern.now c.alignments.run.laid.repeat taken.some
+      in_pattern c.args.job.now.pattern.now c.alignments.run.laid.repeat taken.some
           (omega (arith, c.loop-i.invariant.along.within, c.row_length-count.ensures))
           c.row_entry-at.ensures,
       taken.text,
@@ -109,7 +109,9 @@ loop-i-preserved c = record {
 pub move_around-run-requires-clause-ready : goal.move_around-run-requires-clause-ready
 move_around-run-requires-clause-ready c =
     let tables = c.requires.ready.shifts.tables in
-    rw (period_read c.args.pattern.now c.args.delta2.now tables.taken.some tables.delta2_ready).value_there tables
+    let period_is =
+    c.from-p.ensures ∙ (period_read _ _ tables.taken.some tables.delta2_ready).value_there in
+    rw period_is tables
 
 pub move_around-run-requires-clause-compared : goal.move_around-run-requires-clause-compared
 move_around-run-requires-clause-compared c = ended (goal.at.move_around-run-requires-clause-compared c).Joined-i-count

@@ -1,3 +1,5 @@
+-- What the loops of `run_wrapping::run_wrapping` keep, and their measures: `Moved` over the
+-- alignments, `Along` over the comparisons of one. Assumes nothing.
 use Rattle.std.proofs.Common.{◌-◌, ◌≤◌, ◌<◌, length}
 use Rattle.steps.specs.Steps.{row}
 use Rattle.alignment.proofs.Along.{Along}

@@ -1,10 +1,6 @@
-use Rattle.std.proofs.Common.{◌+◌, ◌≤◌, length}
 use Rattle.tables_delta1.proofs.Table.{TableSettled}
 use Rattle.tables_delta1.proofs.write_rows.Given as goal
 
 -- the rows are right of which the last position that has the byte is below i
 abbrev pub invariant-loop-i : goal.invariant-loop-i
-invariant-loop-i l = record {
-  inside : l.i + 1 ≤ length l.pattern;
-  settled : TableSettled l.pattern l.i l.table;
-}
+invariant-loop-i l = TableSettled l.pattern l.i l.table

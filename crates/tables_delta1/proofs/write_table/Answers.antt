@@ -10,7 +10,7 @@ pub reverse-requires-clause-filled : goal.reverse-requires-clause-filled
 reverse-requires-clause-filled c = λ x h. get_or-replicate 256 x 256 0 (omega arith)
 
 pub link-requires-clause-ends : goal.link-requires-clause-ends
-link-requires-clause-ends c = filled_ends _ _ (omega arith) (λ i h. c.fill.ensures.changed i (omega arith))
+link-requires-clause-ends c = filled_ends _ _ (omega arith) (c.fill.ensures.after (λ y e. e))
 
 pub returns : goal.returns
 returns c = right_stored _ _ c.write_rows.ensures (omega arith) (omega arith)

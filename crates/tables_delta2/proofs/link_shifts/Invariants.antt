@@ -4,7 +4,3 @@ use Rattle.tables_delta2.proofs.link_shifts.Given as goal
 -- the entries from k on are linked, and `after` is the linked shift after k
 abbrev pub invariant-loop-k : goal.invariant-loop-k
 invariant-loop-k l = Begun l.pattern l.next l.k l.after
-
--- what is left to be linked
-abbrev pub decreases-loop-k : goal.decreases-loop-k
-decreases-loop-k l = l.k

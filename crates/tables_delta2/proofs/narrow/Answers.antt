@@ -1,20 +1,20 @@
 -- `tables_delta2::narrow` meets its contract. The invariant: the linked shifts below k are settled,
 -- and k is the next one. Assumes nothing.
-use mathlib.Core.Logic.{inl, inr}
-use Rattle.std.proofs.Common.{List, ℕ, ◌-◌, ◌≤◌, ◌<◌, length, get_or, refl, add-one, arith}
+use Rattle.std.proofs.Common.{List, ℕ, Option, ◌-◌, ◌≤◌, ◌<◌, length, get_or, add-one, arith}
 use Rattle.tables_delta2.proofs.Links.{Narrowing, narrowing_begins, next_is, stays, goes, narrowed, least_left}
 use Rattle.tables_delta2.proofs.Ordered.{read, read_is, read_below, order_room}
 use Rattle.tables_delta2.proofs.narrow.Goals as goal
 
 -- the next one is further on, and within m
 goes_on :
-    {w next : List ℕ} {i h least before k : ℕ} → Narrowing w i h next least before k → h < length w → k ≤ h →
+    {w next : List ℕ} {i h : ℕ} {least : Option ℕ} {before k : ℕ} → Narrowing w i h next least before k → h < length w → k ≤ h →
     length w - get_or next k 0 < length w - k
 goes_on r below turn = let n = next_is r below turn in omega (arith, n.above, n.within)
 
 -- there is an entry for the shift before k
 room :
-    {w next : List ℕ} {i h least before k : ℕ} → Narrowing w i h next least before k → length w ≤ 128 → before < length next
+    {w next : List ℕ} {i h : ℕ} {least : Option ℕ} {before k : ℕ} → Narrowing w i h next least before k → length w ≤ 128 →
+    before < length next
 room r few = omega (arith, r.linked.room, r.before_below, r.within)
 
 pub bounds-order-i : goal.bounds-order-i
@@ -40,16 +40,6 @@ pub loop-k-preserved-then-pattern-h : goal.loop-k-preserved-then-pattern-h
 loop-k-preserved-then-pattern-h c =
     stays c.loop-k.invariant (read_below c.requires.ordered c.args.i c.requires.inside) c.loop-k-test.true c.if-pattern-h.true
 
-pub loop-k-smaller-then-least-eq0 : goal.loop-k-smaller-then-least-eq0
-loop-k-smaller-then-least-eq0 c =
-    goes_on c.loop-k.invariant (read_below c.requires.ordered c.args.i c.requires.inside) c.loop-k-test.true
-
-pub loop-k-preserved-then-least-eq0 : goal.loop-k-preserved-then-least-eq0
-loop-k-preserved-then-least-eq0 c =
-    let r = c.loop-k.invariant in
-    let below = read_below c.requires.ordered c.args.i c.requires.inside in
-    goes r below c.loop-k-test.true c.if-pattern-h.false (room r c.requires.ordered.taken.few) _ (inl (c.if-least-eq0.true, refl))
-
 pub loop-k-smaller : goal.loop-k-smaller
 loop-k-smaller c =
     goes_on c.loop-k.invariant (read_below c.requires.ordered c.args.i c.requires.inside) c.loop-k-test.true
@@ -58,25 +48,15 @@ pub loop-k-preserved : goal.loop-k-preserved
 loop-k-preserved c =
     let r = c.loop-k.invariant in
     let below = read_below c.requires.ordered c.args.i c.requires.inside in
-    goes r below c.loop-k-test.true c.if-pattern-h.false (room r c.requires.ordered.taken.few) _ (inr (c.if-least-eq0.false, refl))
+    rw c.or-least.ensures (goes r below c.loop-k-test.true c.if-pattern-h.false (room r c.requires.ordered.taken.few))
 
 -- past h
-pub returns-then-least-gt0-clause-least : goal.returns-then-least-gt0-clause-least
-returns-then-least-gt0-clause-least c =
+pub returns-clause-least : goal.returns-clause-least
+returns-clause-least c =
     let at = read_is c.requires.ordered c.args.i c.requires.inside in
-    least_left c.loop-k.invariant c.requires.inside at c.loop-k-test.false _ (inl (c.if-least-gt0.true, refl))
+    rw c.unwrap_or.ensures (least_left c.loop-k.invariant c.requires.inside at c.loop-k-test.false)
 
-pub returns-then-least-gt0-clause-linked : goal.returns-then-least-gt0-clause-linked
-returns-then-least-gt0-clause-linked c =
-    let at = read_is c.requires.ordered c.args.i c.requires.inside in
-    rw add-one (narrowed c.loop-k.invariant c.requires.inside at c.loop-k-test.false)
-
-pub returns-else-least-gt0-clause-least : goal.returns-else-least-gt0-clause-least
-returns-else-least-gt0-clause-least c =
-    let at = read_is c.requires.ordered c.args.i c.requires.inside in
-    least_left c.loop-k.invariant c.requires.inside at c.loop-k-test.false _ (inr (c.if-least-gt0.false, refl))
-
-pub returns-else-least-gt0-clause-linked : goal.returns-else-least-gt0-clause-linked
-returns-else-least-gt0-clause-linked c =
+pub returns-clause-linked : goal.returns-clause-linked
+returns-clause-linked c =
     let at = read_is c.requires.ordered c.args.i c.requires.inside in
     rw add-one (narrowed c.loop-k.invariant c.requires.inside at c.loop-k-test.false)

@@ -1,16 +1,18 @@
 -- `tables_delta2::write_delta2` meets its contract. The invariant: of Δ2 after its first entry, the
 -- values from i on are left to be written; and in the second group the shifts are linked that keep
 -- what the entries before i show. Assumes nothing.
-use mathlib.Core.Logic.{◌⊎◌, inl, inr, ⊎_elim}
+use mathlib.Core.Logic.{inl, inr, ⊎_elim}
 use Rattle.std.proofs.Common.{List, ℕ, ℤ, ◌≡◌, ◌+◌, ◌-◌, ◌≤◌, ◌<◌, length, get_or, sym, ◌∙◌, add-one, arith}
+use Prim.Native.Nat.{min}
 use lib.ListN.{set, length-set}
 use Rattle.answers.proofs.Partly.{PartlyWritten, none_written, one_more}
 use Rattle.tables_delta2.proofs.Ordered.{read, read_at, order_room}
 use Rattle.tables_delta2.proofs.Values.{values, next_value, finished, LinkedAt}
 use Rattle.tables_delta2.proofs.write_delta2.Goals as goal
-use Rattle.tables_delta2.proofs.write_delta2.Goals.{then-lower-gt0, else-lower-gt0, then-k-upper, else-k-upper}
+use Rattle.tables_delta2.proofs.write_delta2.Goals.{then-lower-gt0, else-lower-gt0}
 use Rattle.tables_delta2.specs.Links.{OrderStored, LeastLeft}
 use Rattle.tables_minima.specs.Minima.{KMinTable, RMinTable}
+use Rattle.tables.proofs.Cases.{le_or_lt}
 use Rattle.tables.proofs.KMin.{k_min_cases}
 use Rattle.tables.proofs.LaterShift.{Δ2_smaller, Δ2_third}
 use Rattle.tables.proofs.Order.{third_follows}
@@ -20,10 +22,6 @@ use Rattle.tables.specs.Tables.{k_min, r_min, order, Δ2}
 -- the buffer has room for all
 room : (w d : List ℕ) → length w + 1 ≤ length d → 1 + length (values w 1) ≤ length (set d 0 0)
 room w d r = simp length-set (omega (arith, values_length (length w + 1 - 1) 2 (Δ2 w)))
-
--- the smaller of two numbers, as the code takes it
-abbrev Smaller : (k upper v : ℕ) → Type 0
-Smaller k upper v = ((k < upper) × (v ≡ k)) ⊎ ((upper ≤ k) × (v ≡ upper))
 
 -- entry i of the order, which the code reads as a position
 module _ {w : List ℕ} {o : List ℤ} (s : OrderStored w o) (i : ℕ) (first : 1 ≤ i) (inside : i < length w) where
@@ -51,16 +49,15 @@ module _ {w : List ℕ} {o : List ℤ} (s : OrderStored w o) (i : ℕ) (first : 
     none_linked : {next : List ℕ} → LinkedAt w (i + 1) next
     none_linked u some = absurd (some (rw add-one (third_follows w (omega arith) i (omega arith) (omega arith) none)))
 
-  second_value : (k v : ℕ) → LeastLeft w i k → Smaller k (r_min w h) v → v ≡ Δ2 w (i + 1)
+  second_value : (k v : ℕ) → LeastLeft w i k → v ≡ min k (r_min w h) → v ≡ Δ2 w (i + 1)
   second_value k v r chosen =
       rw add-one
       (Δ2_smaller w (omega arith) (omega arith) r.positive r.within r.left.0 r.unlike
-      (λ j a b no_period keep unlike. r.least j a b (keep, λ p. absurd (no_period p)) unlike) v chosen)
+      (λ j a b no_period keep unlike. r.least j a b (keep, λ p. absurd (no_period p)) unlike) v
+      (⊎_elim (λ l. inr (l, omega arith)) (λ l. inl (l, omega arith)) (le_or_lt (r_min w h) k)))
 
-  third_value : (k v : ℕ) → k_min w h ≡ 0 → k ≡ r_min w h → Smaller k (r_min w h) v → v ≡ Δ2 w (i + 1)
-  third_value k v none same chosen =
-      let up : v ≡ r_min w h = ⊎_elim (λ (_, e). e ∙ same) (λ (_, e). e) chosen in
-      up ∙ sym (third_shift none)
+  third_value : (k v : ℕ) → k_min w h ≡ 0 → k ≡ r_min w h → v ≡ min k (r_min w h) → v ≡ Δ2 w (i + 1)
+  third_value k v none same chosen = let up : v ≡ r_min w h = omega arith in up ∙ sym (third_shift none)
 
   -- after an entry whose shift is written
   one_entry :
@@ -102,12 +99,9 @@ loop-i-preserved c =
     let inside : i < length w = omega arith in
     let r_is = r_read s i first inside c.args.r_min.now c.requires.r_min in
     let k_is = k_read s i first inside c.args.k_min.now c.requires.k_min in
-    let value = c.if-k-upper.delta2 in
+    let value = c.min.result in
     let k = c.if-lower-gt0.k in
-    let chosen : Smaller k (r_min w (get_or (order w) i 0)) value =
-    rw (← r_is)
-    (elim c.if-k-upper.branch
-    [ then-k-upper t ↦ inl (t.if-k-upper.true, t.delta2-is) | else-k-upper t ↦ inr (t.if-k-upper.false, t.delta2-is) ]) in
+    let chosen : value ≡ min k (r_min w (get_or (order w) i 0)) = rw (← r_is) c.min.ensures in
     let turn : (value ≡ Δ2 w (i + 1)) × LinkedAt w (i + 1) c.if-lower-gt0.next =
     elim c.if-lower-gt0.branch [
       | then-lower-gt0 t ↦

@@ -18,7 +18,7 @@ use Rattle.tables.proofs.RepeatMinima.{allowed_within, within_allowed, front_all
 use Rattle.tables.specs.Facts.{HasPeriod}
 use Rattle.tables.specs.Tables.{h_min, period}
 use Rattle.tables_delta3.proofs.lower_last.Goals as goal
-use Rattle.tables_delta3.proofs.lower_last.Goals.{then-h-k-ge0+then-h_min-far-lt0, then-far-m, else-far-m, else-h-k-ge0}
+use Rattle.tables_delta3.proofs.lower_last.Goals.{then-far-m, else-far-m}
 use Rattle.tables_delta3.proofs.lower_last.Goals.{else-h-k-ge0-via-then-h-k-ge0+else-h_min-far-lt0, else-h-k-ge0-via-else-h-k-ge0}
 use Rattle.tables_delta3.proofs.lower_last.Invariants.{Begun}
 use Rattle.tables_minima.proofs.Entries.{entry, minus, Read, read}
@@ -93,39 +93,41 @@ loop-k-init c =
 
 pub bounds-table-h : goal.bounds-table-h
 bounds-table-h c =
-    let k = c.loop-k.k in
+    let k = c.loop-k.k - 1 in
     let l : 1 ≤ k = omega arith in
     let u : k ≤ length c.args.pattern.now = omega arith in
     rw (read c.requires.h_min k l u).back (omega (arith, h_min_facts c.args.pattern.now k l u))
 
-pub loop-k-preserved : goal.loop-k-preserved
-loop-k-preserved c =
-    let w = c.args.pattern.now in
+pub loop-k-preserved-then-h_min-far-lt0 : goal.loop-k-preserved-then-h_min-far-lt0
+loop-k-preserved-then-h_min-far-lt0 c =
     let hm = c.requires.h_min in
     let per = c.requires.period in
-    let r = c.loop-k.invariant in
-    let k = c.loop-k.k in
+    let k = c.loop-k.k - 1 in
+    let l : 1 ≤ k = omega arith in
+    let known : (c.if-far-m.value ≡ true) ↔ HasPeriod c.args.pattern.now (k + period c.args.pattern.now) =
+    elim c.if-far-m.branch
+    [ then-far-m v ↦ far hm per k v.if-far-m.true v.value-is | else-far-m v ↦ near hm per k l v.if-far-m.false v.value-is ] in
+    take c.loop-k.invariant l (read hm k l (omega arith)) c.if-h-k-ge0.true (known.0 c.if-h_min-far-lt0.true)
+
+pub loop-k-preserved : goal.loop-k-preserved
+loop-k-preserved c =
+    let hm = c.requires.h_min in
+    let per = c.requires.period in
+    let k = c.loop-k.k - 1 in
     let l : 1 ≤ k = omega arith in
     let at = read hm k l (omega arith) in
-    elim c.if-h-k-ge0.branch [
-      | then-h-k-ge0+then-h_min-far-lt0 b ↦
-          let known : (b.if-far-m.value ≡ true) ↔ HasPeriod w (k + period w) =
-          elim b.if-far-m.branch
+    elim c.else-h-k-ge0.branch [
+      | else-h-k-ge0-via-then-h-k-ge0+else-h_min-far-lt0 w ↦
+          let known : (w.if-far-m.value ≡ true) ↔ HasPeriod c.args.pattern.now (k + period c.args.pattern.now) =
+          elim w.if-far-m.branch
           [ then-far-m v ↦ far hm per k v.if-far-m.true v.value-is | else-far-m v ↦ near hm per k l v.if-far-m.false v.value-is ] in
-          rw b.table-is (take r l at b.if-h-k-ge0.true (known.0 b.if-h_min-far-lt0.true))
-      | else-h-k-ge0 b ↦
-          rw b.table-is
-          (elim b.else-h-k-ge0.branch [
-            | else-h-k-ge0-via-then-h-k-ge0+else-h_min-far-lt0 v ↦
-                let known : (v.if-far-m.value ≡ true) ↔ HasPeriod w (k + period w) =
-                elim v.if-far-m.branch
-                [ then-far-m q ↦ far hm per k q.if-far-m.true q.value-is | else-far-m q ↦ near hm per k l q.if-far-m.false q.value-is ] in
-                leave r l at (λ _ front. clash _ (known.1 front) v.if-h_min-far-lt0.false)
-            | else-h-k-ge0-via-else-h-k-ge0 v ↦ leave r l at (λ z _. clash _ z v.if-h-k-ge0.false)
-          ])
+          leave c.loop-k.invariant l at (λ _ front. clash _ (known.1 front) w.if-h_min-far-lt0.false)
+      | else-h-k-ge0-via-else-h-k-ge0 w ↦ leave c.loop-k.invariant l at (λ z _. clash _ z w.if-h-k-ge0.false)
     ]
 
 pub returns : goal.returns
 returns c i u =
-    let r = c.loop-k.invariant in
-    (λ l. least_over_all _ c.loop-k.k i _ (omega arith) (omega arith) (r.right i (omega arith) (omega arith)), λ l. r.zeros i (omega arith))
+    let r = c.loop-k.invariant in (
+      λ l. least_over_all _ (c.loop-k.k - 1) i _ (omega arith) (omega arith) (r.right i (omega arith) (omega arith)),
+      λ l. r.zeros i (omega arith),
+    )

@@ -2,9 +2,9 @@
 -- right, and `base` is one of these. Where the entry at k - base lies high enough it is the entry
 -- at k too, and else all above the position compared first agree. Assumes nothing.
 use Rattle.std.proofs.Common.{◌≡◌, ◌∙◌, ◌+◌, ◌-◌, ◌<◌, ◌≤◌, ℕ, ℤ, pos, List, Bool, true, false, arith, sym, ap, length, get_or}
-use mathlib.Core.Logic.{◌⊎◌, inl, inr, ⊎_elim}
 use borrow.Author.Tests.{ltb-true, ltb-false}
 use lib.Dec.{ltb}
+use Prim.Native.Nat.{min}
 use lib.IntN.{nat_abs}
 use lib.ListN.{set, length-set}
 use lib.Signed.{lt_z}
@@ -19,7 +19,7 @@ use Rattle.tables_minima.proofs.Entries.{entry, minus, Read, read_one}
 use Rattle.tables_minima.proofs.Signed.{exceeds}
 use Rattle.tables_minima.proofs.Stores.{stored}
 use Rattle.tables_minima.proofs.h_min_table.Goals as goal
-use Rattle.tables_minima.proofs.h_min_table.Goals.{then-h-d, else-h-d, then-known-m, else-known-m}
+use Rattle.tables_minima.proofs.h_min_table.Goals.{Joined-h-d, then-h-d, else-h-d}
 use Rattle.tables_minima.proofs.h_min_table.Invariants.{Begun, Filled}
 use Rattle.tables_minima.specs.Minima.{HMinBegun}
 
@@ -68,33 +68,26 @@ module _ {w : List ℕ} (taken : PatternTaken w) where
         r.filled.right d (omega (arith, r)) (omega (arith, r))
         ∙ ap pos (sym (copied w base d k r.low (omega (arith, r)) (omega (arith, r)) u higher))
 
-    begins :
-        lies_higher t base d ≡ false → (from : ℕ) →
-        (((known t base d < length w) × (from ≡ known t base d)) ⊎ ((length w ≤ known t base d) × (from ≡ length w - 1))) →
-        HMinBegun w k from
+    begins : lies_higher t base d ≡ false → (from : ℕ) → from ≡ min (known t base d) (length w - 1) → HMinBegun w k from
     begins e from which =
         let not-higher = ltb-false (h_min w base + d) (h_min w d) (sym tests ∙ e) in
         let at_base = h_min_facts w base r.low (omega (arith, r, u)) in
         record {
           taken = taken;
           positive = omega (arith, r);
-          low = ⊎_elim (λ q. omega (arith, r, known_is, at_base)) (λ q. omega (arith, u)) which;
-          high = ⊎_elim (λ q. omega arith) (λ q. omega (arith, r, u)) which;
+          low = omega (arith, r, known_is, at_base);
+          high = omega (arith, r, u);
           outside = λ j l v.
-              ⊎_elim
-              (λ q. known_above w base d k r.low (omega (arith, r)) (omega (arith, r)) u not-higher j (omega (arith, known_is)) v)
-              (λ q. absurd (omega arith))
-              which;
+              known_above w base d k r.low (omega (arith, r)) (omega (arith, r)) u not-higher j (omega (arith, known_is)) v;
         }
 
 pub h_min_from-requires-else-h-d : goal.h_min_from-requires-else-h-d
 h_min_from-requires-else-h-d c =
-    let begun = begins c.requires.taken c.loop-k.invariant (omega arith) c.if-h-d.false c.if-known-m.from in
-    elim c.if-known-m.branch
-    [ then-known-m w ↦ begun (inl (w.if-known-m.true, w.from-is)) | else-known-m w ↦ begun (inr (w.if-known-m.false, w.from-is)) ]
+    begins c.requires.taken c.loop-k.invariant (omega arith) c.if-h-d.false c.min-from.result c.min-from.ensures
 
-pub loop-k-preserved : goal.loop-k-preserved
-loop-k-preserved c =
+-- a turn ends with the entry at k right too
+turned : (c : Joined-h-d) → Begun c.args.pattern.now c.if-h-d.h_min c.if-h-d.base (c.loop-k.k + 1)
+turned c =
     let taken = c.requires.taken in
     let r = c.loop-k.invariant in
     elim c.if-h-d.branch [
@@ -105,3 +98,11 @@ loop-k-preserved c =
           let compared = more taken r.filled _ (omega arith) (omega arith) w.h_min_from-else-h-d.ensures in
           rw (w.h_min-is, w.base-is) (record { low = omega arith; below = omega arith; filled = compared })
     ]
+
+pub loop-k-preserved : goal.loop-k-preserved
+loop-k-preserved c = turned (goal.at.loop-k-preserved c).Joined-h-d
+
+pub returns-after-h-d : goal.returns-after-h-d
+returns-after-h-d c =
+    let all = turned (goal.at.returns-after-h-d c).Joined-h-d in
+    record { taken = c.requires.taken; entry = λ k l u. all.filled.right k l (omega arith) }

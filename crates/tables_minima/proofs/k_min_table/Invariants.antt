@@ -11,7 +11,3 @@ pub record Begun (w t : List ℕ) (k : ℕ) : Type 0 where
 -- none
 abbrev pub invariant-loop-k : goal.invariant-loop-k
 invariant-loop-k l = Begun l.pattern l.k_min l.k
-
--- the entries of h_min that are left to read
-abbrev pub decreases-loop-k : goal.decreases-loop-k
-decreases-loop-k l = l.k

@@ -12,7 +12,3 @@ pub record Begun (w t : List ℕ) (least r : ℕ) : Type 0 where
 -- the entries from r on are right, and `least` is the least period above r
 abbrev pub invariant-loop-r : goal.invariant-loop-r
 invariant-loop-r l = Begun l.pattern l.r_min l.least l.r
-
--- the entries that are left to store
-abbrev pub decreases-loop-r : goal.decreases-loop-r
-decreases-loop-r l = l.r

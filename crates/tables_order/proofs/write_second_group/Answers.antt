@@ -17,8 +17,9 @@ use Rattle.tables.specs.Tables.{h_min, second_group}
 use Rattle.tables_minima.proofs.Entries.{entry, Read, read}
 use Rattle.tables_minima.proofs.Signed.{predecessor}
 use Rattle.tables_minima.specs.Minima.{HMinTable, KMinTable}
+use Rattle.tables_order.specs.Groups.{SecondGroupWritten}
 use Rattle.tables_order.proofs.write_second_group.Goals as goal
-use Rattle.tables_order.proofs.write_second_group.Goals.{Then-k_min-h, then-h-last+then-k_min-h, else-h-last}
+use Rattle.tables_order.proofs.write_second_group.Goals.{Then-k_min-h, Joined-h-last, then-h-last+then-k_min-h, else-h-last}
 use Rattle.tables_order.proofs.write_second_group.Goals.{else-h-last-via-then-h-last+else-k_min-h, else-h-last-via-else-h-last}
 
 room : (w : List ℕ) (n : ℕ) → 1 ≤ length w → length w ≤ n → 1 + length (map pos (second_group w)) ≤ n
@@ -78,33 +79,41 @@ bounds-order-next c = (next_in_buffer (goal.at.bounds-order-next c).Then-k_min-h
 pub overflow_add-next : goal.overflow_add-next
 overflow_add-next c = omega (arith, next_in_buffer (goal.at.overflow_add-next c).Then-k_min-h)
 
-pub loop-k-preserved : goal.loop-k-preserved
-loop-k-preserved c = record {
-  low = omega arith;
-  high = omega arith;
-  written =
-      let hm = c.requires.h_min in
-      let km = c.requires.k_min in
-      let r = c.loop-k.invariant.written in
-      let k = c.loop-k.k in
-      let u : k ≤ length c.args.pattern.now = omega arith in
-      let l : 1 ≤ k = omega arith in
-      elim c.if-h-last.branch [
-        | then-h-last+then-k_min-h w ↦
-            let passes = tests hm km k l u w.if-h-last.true (eq-eqb _ _ w.if-k_min-h.true) in
-            rw (w.order-is, w.next-is) (stores hm km k l u r (omega arith) passes)
-        | else-h-last w ↦
-            rw (w.order-is, w.next-is)
-            (elim w.else-h-last.branch [
-              | else-h-last-via-then-h-last+else-k_min-h v ↦
-                  rw (second_not_here _ _ u (tests hm km k l u v.if-h-last.true (ne_eqb _ _ v.if-k_min-h.false))) at r
-              | else-h-last-via-else-h-last v ↦ rw (second_not_here _ _ u (tests hm km k l u v.if-h-last.false refl)) at r
-            ])
-      ];
-}
+-- after a turn the part from k + 1 on is left
+turned :
+    (c : Joined-h-last) → let w = c.args.pattern.now in
+    PartlyWritten 1 c.args.order.now c.if-h-last.order (map pos (second_group w)) (map pos (second_from w (c.loop-k.k + 1))) c.if-h-last.next
+turned c =
+    let hm = c.requires.h_min in
+    let km = c.requires.k_min in
+    let r = c.loop-k.invariant.written in
+    let k = c.loop-k.k in
+    let u : k ≤ length c.args.pattern.now = omega arith in
+    let l : 1 ≤ k = omega arith in
+    elim c.if-h-last.branch [
+      | then-h-last+then-k_min-h w ↦
+          let passes = tests hm km k l u w.if-h-last.true (eq-eqb _ _ w.if-k_min-h.true) in
+          rw (w.order-is, w.next-is) (stores hm km k l u r (omega arith) passes)
+      | else-h-last w ↦
+          rw (w.order-is, w.next-is)
+          (elim w.else-h-last.branch [
+            | else-h-last-via-then-h-last+else-k_min-h v ↦
+                rw (second_not_here _ _ u (tests hm km k l u v.if-h-last.true (ne_eqb _ _ v.if-k_min-h.false))) at r
+            | else-h-last-via-else-h-last v ↦ rw (second_not_here _ _ u (tests hm km k l u v.if-h-last.false refl)) at r
+          ])
+    ]
 
-pub returns : goal.returns
-returns c =
-    let w = c.args.pattern.now in
-    let all = all_written _ _ (rw (second_end w c.loop-k.k (omega arith)) at c.loop-k.invariant.written) in
+-- what is left where nothing is left to be written
+done :
+    (w : List ℕ) (k next : ℕ) {old new : List ℤ} → length w < k →
+    PartlyWritten 1 old new (map pos (second_group w)) (map pos (second_from w k)) next → SecondGroupWritten w old new next
+done w k next e r =
+    let all = all_written _ _ (rw (second_end w k e) at r) in
     record { written = all.buffer; after = rw length-map at all.after }
+
+pub loop-k-preserved : goal.loop-k-preserved
+loop-k-preserved c =
+    record { low = omega arith; high = omega arith; written = turned (goal.at.loop-k-preserved c).Joined-h-last }
+
+pub returns-after-h-last : goal.returns-after-h-last
+returns-after-h-last c = done _ (c.loop-k.k + 1) _ (omega arith) (turned (goal.at.returns-after-h-last c).Joined-h-last)

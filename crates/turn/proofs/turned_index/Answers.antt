@@ -1,12 +1,13 @@
 -- `turn::turned_index` meets its contract: its test is that of the ways that reverse.
 -- Assumes nothing.
+use Rattle.std.proofs.Common.{refl}
 use Rattle.turn.specs.Turned.{turned_index}
 use Rattle.turn.proofs.turned_index.Goals as goal
 
-pub returns-then-way : goal.returns-then-way
+pub returns-then-reverses : goal.returns-then-reverses
 unfolding turned_index
-returns-then-way c = rw c.if-way.true
+returns-then-reverses c = rw (← c.if-reverses.ensures) refl
 
-pub returns-else-way : goal.returns-else-way
+pub returns-else-reverses : goal.returns-else-reverses
 unfolding turned_index
-returns-else-way c = rw c.if-way.false
+returns-else-reverses c = rw (← c.if-reverses.ensures) refl
