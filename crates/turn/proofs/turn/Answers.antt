@@ -6,7 +6,6 @@ use Rattle.answers.proofs.Answered.{zeros}
 use Rattle.answers.proofs.Reasons.{numbered}
 use Rattle.answers.specs.Answers.{status_only, if_done}
 use Rattle.answers.specs.Buffers.{in_front}
-use Rattle.answers.specs.declared.Answer.{Answer}
 use Rattle.turn.proofs.Taken.{Turnable, turnable}
 use Rattle.turn.proofs.Turned.{index_inside}
 use Rattle.turn.specs.Turn.{turn_status, turn_answer, turned_left, TurnOutcomeOf}

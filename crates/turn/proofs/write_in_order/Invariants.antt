@@ -2,10 +2,10 @@ use Rattle.std.proofs.Common.{drop, ◌+◌}
 use Rattle.answers.proofs.Partly.{PartlyWritten}
 use Rattle.turn.specs.Turned.{turned}
 use Rattle.turn.specs.Ways.{way_number}
-use Rattle.turn.proofs.write_turned.Given as goal
+use Rattle.turn.proofs.write_in_order.Given as goal
 
 -- past those copied, the turned bytes from copied + i on are left to be written
 abbrev pub invariant-loop-i : goal.invariant-loop-i
 invariant-loop-i l =
-    PartlyWritten 0 l.initial.entry-items l.entry-items (drop l.copied (turned (way_number l.way) l.bytes))
-    (drop (l.copied + l.i) (turned (way_number l.way) l.bytes)) l.i
+    PartlyWritten l.copied l.initial.out l.out (drop l.copied (turned (way_number l.way) l.bytes))
+    (drop (l.copied + l.i) (turned (way_number l.way) l.bytes)) (l.copied + l.i)
